@@ -1,0 +1,9 @@
+pub mod Faults
+pub mod Source
+pub mod Sink
+pub mod SureSource
+pub mod SureSink
+pub mod MemorySource
+pub mod MemorySink
+pub mod StdSource
+pub mod StdSink
