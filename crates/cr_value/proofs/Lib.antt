@@ -1,0 +1,4 @@
+pub mod Characters
+pub mod Dividing
+pub mod Printed
+pub mod Wrapping

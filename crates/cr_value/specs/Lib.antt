@@ -1,0 +1,4 @@
+pub mod Arithmetic
+pub mod Division
+pub mod Showing
+pub mod Text
