@@ -1,0 +1,4 @@
+pub mod Fates
+pub mod Lawful
+pub mod Numbers
+pub mod Parts
