@@ -1,0 +1,12 @@
+pub mod Literals
+pub mod SumTexts
+pub mod Lines
+pub mod RunOfSums
+pub mod Done
+pub mod Places
+pub mod Closings
+pub mod EndsOfRuns
+pub mod Exactness
+pub mod Reports
+pub mod CommandLines
+pub mod OneProgram

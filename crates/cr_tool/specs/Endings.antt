@@ -1,0 +1,61 @@
+-- The table of endings: the status and the closing line of each.
+use Rattle.std.specs.Prelude.{ℕ, ◌+◌, ◌==◌, if◌then◌else◌, List, [], ◌∷◌, ◌++◌, take, Option, Some, None, codes}
+use Rattle.std.specs.Fmt.{decimal}
+use Rattle.cr_tool.specs.declared.ending.Ending.{Ending}
+use Rattle.cr_tool.specs.declared.ending.Ending.TheVariants as ending
+use Rattle.cr_tool.specs.declared.ending.Refusal.{Refusal}
+use Rattle.cr_tool.specs.declared.ending.Code.{Code}
+use Rattle.cr_tool.specs.declared.ending.Code.TheVariants as code
+use Rattle.cr_tool.specs.declared.ending.Which.{Which}
+use Rattle.cr_tool.specs.declared.ending.Which.TheVariants as which
+
+abbrev pub status_of : Ending → ℕ
+status_of ending.Finished = 0
+status_of ending.Usage = 2
+status_of (ending.Refused refusal) = 3
+status_of ending.SourceTooLong = 3
+status_of (ending.ReadFault place) = 6
+status_of (ending.WriteFault place) = 7
+status_of ending.NoMemory = 8
+
+-- the line and the column behind these bytes, from this line and column
+abbrev pub place_after : ℕ → ℕ → List ℕ → ℕ × ℕ
+place_after line column [] = (line, column)
+place_after line column (c ∷ cs) = if c == 10 then place_after (line + 1) 1 cs else place_after line (column + 1) cs
+
+-- The line and the column of a byte place, both from 1. Columns count bytes.
+abbrev pub place_of : List ℕ → ℕ → ℕ × ℕ
+place_of source at = place_after 1 1 (take at source)
+
+abbrev pub place_text : List ℕ → Option ℕ → List ℕ
+place_text source None = []
+place_text source (Some at) = let place = place_of source at in
+    decimal place.0 ++ codes ":" ++ decimal place.1 ++ codes ": "
+
+abbrev pub code_text : Code → List ℕ
+code_text code.NotBuilt = codes "X0 not built yet"
+
+abbrev pub which_text : Which → List ℕ
+which_text which.Source = codes "source"
+which_text which.Out = codes "out"
+
+abbrev pub line : List ℕ → List ℕ
+line text = text ++ 10 ∷ []
+
+-- the closing line of an ending that speaks of no place
+abbrev pub fixed : Ending → List ℕ
+fixed ending.Finished = []
+fixed ending.Usage = line (codes "usage: crystal_ec COMMAND FILE [TRACE] [--workers N] [--budget N] [--trace FILE]")
+fixed (ending.Refused refusal) = []
+fixed ending.SourceTooLong = line (codes "source too long")
+fixed (ending.ReadFault place) = line (codes "read fault: " ++ which_text place)
+fixed (ending.WriteFault place) = line (codes "write fault: " ++ which_text place)
+fixed ending.NoMemory = line (codes "out of memory")
+
+abbrev pub refusal_line : List ℕ → Refusal → List ℕ
+refusal_line source refusal = line (place_text source refusal.at ++ code_text refusal.code)
+
+-- what is written on the error output at the end of a command
+abbrev pub closing : List ℕ → Ending → List ℕ
+closing source (ending.Refused refusal) = refusal_line source refusal
+closing source other = fixed other

@@ -1,0 +1,13 @@
+pub mod Sums
+pub mod Term
+pub mod State
+pub mod Program
+pub mod Writing
+pub mod Evaluated
+pub mod Endings
+pub mod Closed
+pub mod Words
+pub mod Answer
+pub mod Opened
+pub mod Ended
+pub mod Reported

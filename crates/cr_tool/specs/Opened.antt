@@ -1,0 +1,48 @@
+-- What opening a source gives: the lines of a program, or an ending.
+use Rattle.std.specs.Prelude.{◌≡◌, ◌⊎◌, ℕ, List, Option, IfSome, Result, Ok, Err, Vec, string_bytes}
+use Rattle.std.specs.declared.alloc.Global.{Global}
+use Rattle.cr_tool.specs.declared.ending.Ending.{Ending}
+use Rattle.cr_tool.specs.declared.ending.Ending.TheVariants as ending
+use Rattle.cr_tool.specs.declared.closed.Closed.{Closed}
+use Rattle.cr_tool.specs.declared.sums.Line.{Line}
+use Rattle.cr_tool.specs.Sums.{Spells, IsUnbuilt}
+use Rattle.cr_tool.specs.Endings.{refusal_line}
+use Rattle.cr_tool.specs.Answer.{Reading, IsWhole, CauseBefore, unbuilt}
+
+-- these are the bytes that the source tells, if it tells them
+abbrev pub Tells : Option (List ℕ) → List ℕ → Type 0
+Tells left bytes = IfSome left (λ told. bytes ≡ told)
+
+-- the line is that of the refusal, where the ending is one
+abbrev pub LineIs : List ℕ → Ending → List ℕ → Type 0
+LineIs bytes (ending.Refused refusal) text = text ≡ refusal_line bytes refusal
+LineIs bytes other text = Unit {0}
+
+-- An ending before a run, with its cause, for a source with these bytes.
+pub record IsClosed (source : Reading) (closed : Closed) : Type 0 where
+  pub bytes : List ℕ
+  pub told : Tells source.left bytes
+  pub cause : CauseBefore closed.ending bytes source
+  pub line : LineIs bytes closed.ending (string_bytes closed.line)
+
+-- The program of a source that was read whole.
+pub record IsProgram (source : Reading) (lines : List Line) : Type 0 where
+  pub bytes : List ℕ
+  pub told : Tells source.left bytes
+  pub whole : IsWhole bytes source
+  pub spelled : Spells bytes lines
+
+abbrev pub IsOpened : Reading → Result (Vec Line Global) Closed → Type 0
+IsOpened source (Ok lines) = IsProgram source lines.items
+IsOpened source (Err closed) = IsClosed source closed
+
+-- the bytes of a source that was read whole, or the ending of one that was not
+abbrev pub IsRead : Reading → Result (Vec ℕ Global) Closed → Type 0
+IsRead source (Ok bytes) = Tells source.left bytes.items × IsWhole bytes.items source
+IsRead source (Err closed) = IsClosed source closed
+
+-- The ending of a source with these bytes, which is no list of sums.
+abbrev pub IsRefusal : List ℕ → Closed → Type 0
+IsRefusal bytes closed =
+    ((closed.ending ≡ ending.NoMemory) ⊎ ((place : ℕ) × (closed.ending ≡ unbuilt place) × IsUnbuilt bytes place))
+    × LineIs bytes closed.ending (string_bytes closed.line)

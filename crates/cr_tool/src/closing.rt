@@ -1,0 +1,94 @@
+ghost use Rattle.std.specs.Prelude.{◌≡◌, ◌≤◌, ◌<◌, ◌^◌, length, IfOk, IfSome};
+ghost use Rattle.std.specs.String.{string_bytes};
+ghost use Rattle.cr_tool.specs.Endings.{status_of, place_of, place_text, code_text, fixed, refusal_line};
+
+use crate::ending::{Code, Ending, Refusal, Which};
+use std::alloc::{AllocError, Global};
+
+/// The exit status of an ending.
+pub fn status_of(ending: Ending) -> u8
+    ensures { result ≡ status_of ending }
+{
+    match ending {
+        Ending::Finished => 0,
+        Ending::Usage => 2,
+        Ending::Refused(_) | Ending::SourceTooLong => 3,
+        Ending::ReadFault(_) => 6,
+        Ending::WriteFault(_) => 7,
+        Ending::NoMemory => 8,
+    }
+}
+
+/// The closing line of an ending that speaks of no place.
+pub fn fixed(ending: Ending) -> &'static str
+    ensures { result.now ≡ fixed ending }
+{
+    match ending {
+        Ending::Finished | Ending::Refused(_) => "",
+        Ending::Usage => {
+            "usage: crystal_ec COMMAND FILE [TRACE] [--workers N] [--budget N] [--trace FILE]\n"
+        }
+        Ending::SourceTooLong => "source too long\n",
+        Ending::ReadFault(Which::Source) => "read fault: source\n",
+        Ending::ReadFault(Which::Out) => "read fault: out\n",
+        Ending::WriteFault(Which::Source) => "write fault: source\n",
+        Ending::WriteFault(Which::Out) => "write fault: out\n",
+        Ending::NoMemory => "out of memory\n",
+    }
+}
+
+fn code_text(code: Code) -> &'static str
+    ensures { result.now ≡ code_text code }
+{
+    match code {
+        Code::NotBuilt => "X0 not built yet",
+    }
+}
+
+/// The line and the column of a byte place, both from 1. Columns count bytes.
+fn place_of(source: &[u8], at: usize) -> (u32, u32)
+    requires within { at ≤ length source.now }
+    requires short { length source.now < 2 ^ 31 }
+    ensures { result ≡ place_of source.now at }
+{
+    let mut line = 1;
+    let mut column = 1;
+    for byte in &source[..at] {
+        if *byte == b'\n' {
+            line += 1;
+            column = 1;
+        } else {
+            column += 1;
+        }
+    }
+    (line, column)
+}
+
+/// The front of a refusal's line: its place, if it has one.
+fn place_text(alloc: Global, source: &[u8], at: Option<u32>) -> Result<String, AllocError>
+    requires within { IfSome at (λ at. at ≤ length source.now) }
+    requires short { length source.now < 2 ^ 31 }
+    ensures { IfOk result (λ text. string_bytes text ≡ place_text source.now at) }
+{
+    let Some(at) = at else {
+        return Ok(String::new(alloc));
+    };
+    let (line, column) = place_of(source, at as usize);
+    let mut text = line.to_string(alloc)?;
+    text.push_str(":")?;
+    text.push_str(column.to_string(alloc)?.as_str())?;
+    text.push_str(": ")?;
+    Ok(text)
+}
+
+/// The closing line of a refusal.
+pub fn refusal_line(alloc: Global, source: &[u8], refusal: Refusal) -> Result<String, AllocError>
+    requires within { IfSome refusal.at (λ at. at ≤ length source.now) }
+    requires short { length source.now < 2 ^ 31 }
+    ensures { IfOk result (λ line. string_bytes line ≡ refusal_line source.now refusal) }
+{
+    let mut line = place_text(alloc, source, refusal.at)?;
+    line.push_str(code_text(refusal.code))?;
+    line.push_str("\n")?;
+    Ok(line)
+}

@@ -1,0 +1,19 @@
+// Laws of the definitions: a source is one list of sums, or is refused at one place.
+ghost use Rattle.std.specs.Prelude.{◌≡◌, ℕ, List};
+ghost use Rattle.cr_tool.specs.declared.sums.Line.{Line};
+ghost use Rattle.cr_tool.specs.Sums.{Spells, IsUnbuilt};
+
+/// A source is one list of sums at most.
+pub fn one_program()
+    ensures { (source : List ℕ) (xs ys : List Line) → Spells source xs → Spells source ys → xs ≡ ys }
+{}
+
+/// A source that is no list of sums has one place at which it is refused.
+pub fn one_refusal()
+    ensures { (source : List ℕ) (p q : ℕ) → IsUnbuilt source p → IsUnbuilt source q → p ≡ q }
+{}
+
+/// A list of sums is not refused.
+pub fn program_or_refusal()
+    ensures { (source : List ℕ) (lines : List Line) (place : ℕ) → Spells source lines → IsUnbuilt source place → ⊥ }
+{}

@@ -1,0 +1,35 @@
+use cr_value::Text;
+
+/// What is to be run.
+#[derive(Debug, Drop)]
+pub enum Job {
+    /// The program in this file.
+    File(Text),
+}
+
+/// What a `run` command says.
+#[derive(Debug, Drop)]
+pub struct RunWords {
+    pub job: Job,
+    /// How many workers run it, 1 to 64.
+    pub workers: u32,
+    /// The most reductions and resumes of the run, 1 to 50,000,000.
+    pub budget: u64,
+    /// The file that the new trace goes to.
+    pub trace: Option<Text>,
+}
+
+/// What a command line says.
+#[derive(Debug, Drop)]
+pub enum Words {
+    Run(RunWords),
+}
+
+/// Why the words are not read.
+#[derive(Clone, Copy, Debug, PartialEq, Eq)]
+pub enum WordsFault {
+    /// They are no command line.
+    Usage,
+    /// Want of memory.
+    NoMemory,
+}
