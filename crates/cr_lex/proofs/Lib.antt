@@ -1,0 +1,12 @@
+mod Tables
+mod LongestOperator
+mod WordBytes
+mod Values
+mod Marked
+mod Slices
+mod Scanned
+mod PartsRead
+mod PartText
+mod Dispatch
+mod Stepping
+mod Answered

@@ -1,0 +1,53 @@
+-- The longest operator at the front.
+use Rattle.std.proofs.Common.{◌≡◌, ℕ, zero, suc, ◌<◌, ◌≤◌, Bool, true, false, ◌&&◌, List, [], ◌∷◌, length, take, drop, Some, None, refl, sym, arith}
+use Rattle.cr_syntax.specs.declared.token.TokenKind.{TokenKind}
+use Rattle.cr_syntax.specs.Operators.{operator_of}
+use Rattle.cr_lex.specs.Longest.{IsLongest, HasNone}
+use Rattle.cr_lex.specs.Words.{operator_form, two_at, three_at}
+
+and_false : (b : Bool) → (b && false) ≡ false
+and_false true = refl
+and_false false = refl
+
+-- no operator has more than three bytes
+no_four : (a b c d : ℕ) (es : List ℕ) → operator_of (a ∷ b ∷ c ∷ d ∷ es) ≡ None
+no_four a b c d es = simp and_false
+
+no_more : (a : ℕ) (bs : List ℕ) (m : ℕ) → 2 < m → m ≤ length bs → operator_form a (take m bs) (drop m bs) ≡ None
+no_more a bs zero above within = absurd (omega arith)
+no_more a bs (suc zero) above within = absurd (omega arith)
+no_more a bs (suc (suc zero)) above within = absurd (omega arith)
+no_more a [] (suc (suc (suc m))) above within = absurd (omega arith)
+no_more a (b ∷ []) (suc (suc (suc m))) above within = absurd (omega arith)
+no_more a (b ∷ c ∷ []) (suc (suc (suc m))) above within = absurd (omega arith)
+no_more a (b ∷ c ∷ d ∷ es) (suc (suc (suc m))) above within = no_four a b c d (take m es)
+
+past_two : (a : ℕ) (bs : List ℕ) → three_at a bs ≡ None → (m : ℕ) → 1 < m → m ≤ length bs → operator_form a (take m bs) (drop m bs) ≡ None
+past_two a bs none zero above within = absurd (omega arith)
+past_two a bs none (suc zero) above within = absurd (omega arith)
+past_two a [] none (suc (suc zero)) above within = absurd (omega arith)
+past_two a (b ∷ []) none (suc (suc zero)) above within = absurd (omega arith)
+past_two a (b ∷ c ∷ bs) none (suc (suc zero)) above within = none
+past_two a bs none (suc (suc (suc m))) above within = no_more a bs (suc (suc (suc m))) (omega arith) within
+
+past_one : (a : ℕ) (bs : List ℕ) → three_at a bs ≡ None → two_at a bs ≡ None → (m : ℕ) → 0 < m → m ≤ length bs → operator_form a (take m bs) (drop m bs) ≡ None
+past_one a bs none two zero above within = absurd (omega arith)
+past_one a [] none two (suc zero) above within = absurd (omega arith)
+past_one a (b ∷ bs) none two (suc zero) above within = two
+past_one a bs none two (suc (suc m)) above within = past_two a bs none (suc (suc m)) (omega arith) within
+
+pub longest_three : (a : ℕ) (bs : List ℕ) (kind : TokenKind) → Some kind ≡ three_at a bs → IsLongest (operator_form a) bs 2 kind
+longest_three a [] kind e = absurd cc
+longest_three a (b ∷ []) kind e = absurd cc
+longest_three a (b ∷ c ∷ bs) kind e = record { within = omega arith; here = sym e; longest = λ m above within. no_more a (b ∷ c ∷ bs) m above within }
+
+pub longest_two : (a : ℕ) (bs : List ℕ) (kind : TokenKind) → three_at a bs ≡ None → Some kind ≡ two_at a bs → IsLongest (operator_form a) bs 1 kind
+longest_two a [] kind none e = absurd cc
+longest_two a (b ∷ bs) kind none e = record { within = omega arith; here = sym e; longest = λ m above within. past_two a (b ∷ bs) none m above within }
+
+pub longest_one : (a : ℕ) (bs : List ℕ) (kind : TokenKind) → three_at a bs ≡ None → two_at a bs ≡ None → Some kind ≡ operator_of (a ∷ []) → IsLongest (operator_form a) bs 0 kind
+longest_one a bs kind none two e = record { within = omega arith; here = sym e; longest = λ m above within. past_one a bs none two m above within }
+
+pub no_operator : (a : ℕ) (bs : List ℕ) → three_at a bs ≡ None → two_at a bs ≡ None → None ≡ operator_of (a ∷ []) → HasNone (operator_form a) bs
+no_operator a bs none two e zero within = sym e
+no_operator a bs none two e (suc m) within = past_one a bs none two (suc m) (omega arith) within

@@ -1,0 +1,140 @@
+-- What stands next, and a source read token by token.
+use Rattle.std.proofs.Common.{◌≡◌, ℕ, zero, suc, ◌+◌, ◌-◌, ◌<◌, ◌≤◌, Bool, List, [], ◌∷◌, ◌++◌, length, take, drop, get_or, Option, Some, None, unwrap_or, refl, sym, ap, subst, ◌∙◌, arith, inl, inr, append_assoc, drop-cons, length-drop}
+use Rattle.std.proofs.lemmas.Bool.{cases_lt}
+use Rattle.std.proofs.lemmas.Str.{IsUtf8-drop, IsCharBoundary-after_ascii}
+use Rattle.std.specs.Str.{IsUtf8}
+use Rattle.cr_syntax.specs.declared.fault.LexFault.{LexFault}
+use Rattle.cr_syntax.specs.declared.fault.LexFault.TheVariants as fault
+use Rattle.cr_syntax.specs.declared.token.Token.{Token}
+use Rattle.cr_syntax.specs.declared.token.TokenKind.{TokenKind}
+use Rattle.cr_syntax.specs.declared.token.TokenKind.TheVariants.{End}
+use Rattle.cr_syntax.specs.Lexes.{Before, start, outermost, behind, place_of, is_spaced, form_by, form_of, spells, IsToken, IsEnd, LexesFrom}
+use Rattle.cr_syntax.specs.Faults.{fault_at, IsStuck, FailsFrom}
+use Rattle.cr_lex.specs.Longest.{IsLongest, HasNone}
+use Rattle.cr_lex.proofs.Slices.{all_behind}
+
+abbrev pub token : ℕ → ℕ → Bool → TokenKind → Token
+token first past spaced kind = record { kind = kind; span = record { first = first; past = past }; spaced = spaced }
+
+form_at : (before : Before) (spaced : Bool) (rest : List ℕ) (n : ℕ) → 0 < length rest → form_of before spaced rest (suc n) ≡ form_by before spaced (get_or rest 0 0) (take n (drop 1 rest)) (drop n (drop 1 rest))
+form_at before spaced [] n some = absurd (omega arith)
+form_at before spaced (b ∷ bs) n some = refl
+
+form_of_zero : (before : Before) (spaced : Bool) (bs : List ℕ) → form_of before spaced bs 0 ≡ None
+form_of_zero before spaced [] = refl
+form_of_zero before spaced (b ∷ bs) = refl
+
+module _ (source : List ℕ) (before : Before) (at : ℕ) where
+  abbrev place : ℕ
+  place = place_of source at
+
+  abbrev spaced : Bool
+  spaced = is_spaced source at
+
+  abbrev rest : List ℕ
+  rest = drop (place_of source at) source
+
+  spells_before : (past : ℕ) → past ≤ place → spells source before at past ≡ None
+  spells_before past le = let none : past - place ≡ 0 = omega arith in ap (form_of before spaced rest) none ∙ form_of_zero before spaced rest
+
+  spells_behind : (n : ℕ) → place < length source → spells source before at (place + 1 + n) ≡ form_by before spaced (get_or rest 0 0) (take n (drop 1 rest)) (drop n (drop 1 rest))
+  spells_behind n below = let e : place + 1 + n - place ≡ suc n = omega arith in
+      ap (form_of before spaced rest) e ∙ form_at before spaced rest n (omega (arith, length-drop place source))
+
+  pub is_end : place ≡ length source → outermost before.nesting ≡ None → IsEnd source before at (token place place spaced End)
+  is_end end closed = record { kind = refl; at_end = end; first = end; past = end; spaced = refl; closed = closed }
+
+  nothing_left : (n : ℕ) (s : List ℕ) → n ≡ length s → drop n s ≡ []
+  nothing_left zero [] e = refl
+  nothing_left zero (b ∷ bs) e = absurd (omega arith)
+  nothing_left (suc n) [] e = refl
+  nothing_left (suc n) (b ∷ bs) e = nothing_left n bs (omega arith)
+
+  pub is_open : (quote : ℕ) → place ≡ length source → outermost before.nesting ≡ Some quote → IsStuck source before at (fault.OpenString quote)
+  is_open quote end inside = record {
+    none = λ past within. spells_before past (omega arith);
+    is_open = λ _ closed. absurd (let apart : None ≡ Some quote = sym closed ∙ inside in cc);
+    fault = ap (λ (o : Option ℕ). fault.OpenString (unwrap_or o place)) (sym inside) ∙ ap (fault_at before place) (sym (nothing_left place source end));
+  }
+
+  pub is_token : (n : ℕ) (kind : TokenKind) → place < length source → IsLongest (form_by before spaced (get_or rest 0 0)) (drop 1 rest) n kind → IsToken source before at (token place (place + 1 + n) spaced kind)
+  is_token n kind below is = record {
+    first = refl;
+    spaced = refl;
+    some = omega arith;
+    within = (let le : n ≤ length (drop 1 rest) = is.within in omega (arith, length-drop 1 rest, length-drop place source));
+    form = spells_behind n below ∙ is.here;
+    longest = longer;
+  }
+    where
+      longer : (past : ℕ) → place + 1 + n < past → past ≤ length source → spells source before at past ≡ None
+      longer past above within =
+          let m = past - (place + 1) in
+          let e : past ≡ place + 1 + (past - (place + 1)) = omega arith in
+          ap (spells source before at) e ∙ spells_behind (past - (place + 1)) below
+          ∙ is.longest (past - (place + 1)) (omega arith) (omega (arith, length-drop 1 rest, length-drop place source))
+
+  pub is_stuck : (f : LexFault) → place < length source → HasNone (form_by before spaced (get_or rest 0 0)) (drop 1 rest) → f ≡ fault_at before place rest → IsStuck source before at f
+  is_stuck f below none e = record {
+    none = all;
+    is_open = λ end _. absurd (omega arith);
+    fault = e;
+  }
+    where
+      all : (past : ℕ) → past ≤ length source → spells source before at past ≡ None
+      all past within = elim (cases_lt place past) [
+        | inr le ↦ spells_before past le
+        | inl above ↦ (let e : past ≡ place + 1 + (past - (place + 1)) = omega arith in
+            ap (spells source before at) e ∙ spells_behind (past - (place + 1)) below
+            ∙ none (past - (place + 1)) (omega (arith, length-drop 1 rest, length-drop place source)))
+      ]
+
+-- what stands behind an ASCII byte of a text is text
+pub utf8_behind : (source : List ℕ) (place : ℕ) → IsUtf8 source → place < length source
+    → get_or (take (length source - place) (drop place source)) 0 0 < 128 → IsUtf8 (drop 1 (take (length source - place) (drop place source)))
+utf8_behind source place utf8 below ascii =
+    let same : take (length source - place) (drop place source) ≡ get_or source place 0 ∷ drop (suc place) source = all_behind place source ∙ drop-cons source place 0 below in
+    let low : get_or source place 0 < 128 = subst (λ (bs : List ℕ). get_or bs 0 0 < 128) same ascii in
+    subst (λ (bs : List ℕ). IsUtf8 (drop 1 bs)) (sym same)
+    (let one : place + 1 ≡ suc place = omega arith in subst (λ (i : ℕ). IsUtf8 (drop i source)) one (IsUtf8-drop source (place + 1) utf8 (IsCharBoundary-after_ascii source place utf8 below low)))
+
+-- ---- token by token
+
+pub lexes_more : (source : List ℕ) (before : Before) (at : ℕ) (found : List Token) (t : Token) → IsToken source before at t
+    → ((ts : List Token) → LexesFrom source before at ts → LexesFrom source start 0 (found ++ ts))
+    → (ts : List Token) → LexesFrom source (behind before t) t.span.past ts → LexesFrom source start 0 ((found ++ t ∷ []) ++ ts)
+lexes_more source before at found t is so_far ts lexes = subst (λ (us : List Token). LexesFrom source start 0 us) (sym (append_assoc found (t ∷ []) ts)) (so_far (t ∷ ts) (inr (is, lexes)))
+
+pub fails_more : (source : List ℕ) (before : Before) (at : ℕ) (found : List Token) (t : Token) → IsToken source before at t
+    → ((ts : List Token) (f : LexFault) → FailsFrom source before at ts f → FailsFrom source start 0 (found ++ ts) f)
+    → (ts : List Token) (f : LexFault) → FailsFrom source (behind before t) t.span.past ts f → FailsFrom source start 0 ((found ++ t ∷ []) ++ ts) f
+fails_more source before at found t is so_far ts f fails = subst (λ (us : List Token). FailsFrom source start 0 us f) (sym (append_assoc found (t ∷ []) ts)) (so_far (t ∷ ts) f (is, fails))
+
+-- what the code found at the place and the `spaced` that it computed
+abbrev sliced : List ℕ → ℕ → List ℕ
+sliced source p = take (length source - p) (drop p source)
+
+module _ (source : List ℕ) (before : Before) (at : ℕ) where
+  abbrev FoundAt : ℕ → TokenKind → Token → ℕ → Bool → Type 0
+  FoundAt n kind t p sp = p < length source → t ≡ token p (p + 1 + n) sp kind
+      → IsLongest (form_by before sp (get_or (sliced source p) 0 0)) (drop 1 (sliced source p)) n kind → IsToken source before at t
+
+  found_here : (n : ℕ) (kind : TokenKind) (t : Token) → FoundAt n kind t (place_of source at) (is_spaced source at)
+  found_here n kind t below same is = subst (λ (u : Token). IsToken source before at u) (sym same)
+      (is_token source before at n kind below (subst (λ (bs : List ℕ). IsLongest (form_by before (is_spaced source at) (get_or bs 0 0)) (drop 1 bs) n kind) (all_behind (place_of source at) source) is))
+
+  pub token_found : (n : ℕ) (kind : TokenKind) (t : Token) (p : ℕ) (sp : Bool) → p ≡ place_of source at → sp ≡ is_spaced source at → FoundAt n kind t p sp
+  token_found n kind t p sp e f = subst (λ (q : ℕ). FoundAt n kind t q sp) (sym e) (subst (FoundAt n kind t (place_of source at)) (sym f) (found_here n kind t))
+
+  abbrev StuckAt : LexFault → ℕ → Bool → Type 0
+  StuckAt f p sp = p < length source → HasNone (form_by before sp (get_or (sliced source p) 0 0)) (drop 1 (sliced source p)) → f ≡ fault_at before p (sliced source p) → IsStuck source before at f
+
+  stuck_here : (f : LexFault) → StuckAt f (place_of source at) (is_spaced source at)
+  stuck_here f below none e =
+      let same = all_behind (place_of source at) source in
+      is_stuck source before at f below
+      (subst (λ (bs : List ℕ). HasNone (form_by before (is_spaced source at) (get_or bs 0 0)) (drop 1 bs)) same none)
+      (e ∙ ap (fault_at before (place_of source at)) same)
+
+  pub stuck_found : (f : LexFault) (p : ℕ) (sp : Bool) → p ≡ place_of source at → sp ≡ is_spaced source at → StuckAt f p sp
+  stuck_found f p sp e g = subst (λ (q : ℕ). StuckAt f q sp) (sym e) (subst (StuckAt f (place_of source at)) (sym g) (stuck_here f))

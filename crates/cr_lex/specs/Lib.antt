@@ -1,0 +1,7 @@
+pub mod Longest
+pub mod Words
+pub mod Numbers
+pub mod Texts
+pub mod Keywords
+pub mod Parts
+pub mod Step

@@ -1,0 +1,38 @@
+-- One token after the other.
+use Rattle.std.specs.Prelude.{◌≡◌, ◌≢◌, ℕ, false, List, [], ◌∷◌, ◌++◌, ◌⊎◌, Option, Some, None, Result, Ok, Err}
+use Rattle.cr_syntax.specs.declared.fault.LexFault.{LexFault}
+use Rattle.cr_syntax.specs.declared.fault.LexFault.TheVariants.{NoMemory}
+use Rattle.cr_syntax.specs.declared.token.Token.{Token}
+use Rattle.cr_syntax.specs.declared.token.TokenKind.{TokenKind}
+use Rattle.cr_syntax.specs.Lexes.{Before, behind, IsToken, IsEnd}
+use Rattle.cr_syntax.specs.Faults.{IsStuck}
+use Rattle.cr_lex.specs.declared.lexer.Seen.{Seen}
+use Rattle.cr_lex.specs.Longest.{Form, IsLongest, HasNone}
+use Rattle.cr_lex.specs.Numbers.{number_form}
+
+abbrev pub before_of : Seen → Before
+before_of seen = record { nesting = seen.nesting.items; last = seen.last }
+
+-- a number from its first digit on
+abbrev pub digit_form : ℕ → Form
+digit_form b text after = number_form false (b ∷ text) after
+
+-- A reader found the longest front that has the form, or no front has it and there is this fault.
+abbrev pub ReadsForm : Form → List ℕ → LexFault → Result (TokenKind × ℕ) LexFault → Type 0
+ReadsForm form bytes f (Ok found) = IsLongest form bytes found.1 found.0
+ReadsForm form bytes f (Err e) = e ≢ NoMemory → HasNone form bytes × (e ≡ f)
+
+-- what stands next behind `at`
+abbrev pub Stands : List ℕ → Before → ℕ → Result Token LexFault → Type 0
+Stands source before at (Ok t) = IsEnd source before at t ⊎ IsToken source before at t
+Stands source before at (Err e) = e ≢ NoMemory → IsStuck source before at e
+
+-- what one more token changes: what the tokens before leave, and the tokens so far
+pub record Adds (before : Before) (found : List Token) (after : Before) (found' : List Token) (t : Token) : Type 0 where
+  pub before_is : after ≡ behind before t
+  pub found_is : found' ≡ found ++ t ∷ []
+
+abbrev pub Turns : List ℕ → Before → ℕ → List Token → Result (Option ℕ) LexFault → Before → List Token → Type 0
+Turns source before at found (Ok None) after found' = (t : Token) × IsEnd source before at t × (found' ≡ found ++ t ∷ [])
+Turns source before at found (Ok (Some past)) after found' = (t : Token) × IsToken source before at t × (past ≡ t.span.past) × Adds before found after found' t
+Turns source before at found (Err e) after found' = e ≢ NoMemory → IsStuck source before at e

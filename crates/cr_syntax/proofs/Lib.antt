@@ -1,0 +1,3 @@
+mod Unique
+mod Total
+mod Named

@@ -1,0 +1,9 @@
+pub mod Look
+pub mod Words
+pub mod Numbers
+pub mod Texts
+pub mod Operators
+pub mod Lexes
+pub mod Faults
+pub mod Laws
+pub mod Names

@@ -1,0 +1,16 @@
+/// Why a source has no tokens. Each fault but the last has its byte place.
+#[derive(Clone, Copy, Debug, PartialEq, Eq)]
+pub enum LexFault {
+    /// The bytes from here on are not UTF-8.
+    NotUtf8(u32),
+    /// A byte that begins no token.
+    BadByte(u32),
+    /// A text or an insertion that the end of the source leaves open, at the opening quote of the outermost.
+    OpenString(u32),
+    /// A backslash that begins no escape.
+    BadEscape(u32),
+    /// The first byte of what is no number, or of a number outside its type.
+    BadNumber(u32),
+    /// Want of memory.
+    NoMemory,
+}

@@ -1,0 +1,21 @@
+ghost use Rattle.cr_syntax.specs.Laws.{AtMostOneList, AtMostOneFault, NeverBoth, AlwaysOne};
+
+/// A source has at most one list of tokens.
+pub fn at_most_one_list()
+    ensures { AtMostOneList }
+{}
+
+/// A source has at most one fault.
+pub fn at_most_one_fault()
+    ensures { AtMostOneFault }
+{}
+
+/// No source has both.
+pub fn never_tokens_and_fault()
+    ensures { NeverBoth }
+{}
+
+/// Each source has a list of tokens or a fault.
+pub fn tokens_or_fault()
+    ensures { AlwaysOne }
+{}
