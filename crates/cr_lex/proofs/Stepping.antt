@@ -1,5 +1,5 @@
 -- What stands next, and a source read token by token.
-use Rattle.std.proofs.Common.{◌≡◌, ℕ, zero, suc, ◌+◌, ◌-◌, ◌<◌, ◌≤◌, Bool, List, [], ◌∷◌, ◌++◌, length, take, drop, get_or, Option, Some, None, unwrap_or, refl, sym, ap, subst, ◌∙◌, arith, inl, inr, append_assoc, drop-cons, length-drop}
+use Rattle.std.proofs.Common.{◌≡◌, ℕ, zero, suc, ◌+◌, ◌-◌, ◌<◌, ◌≤◌, Bool, List, [], ◌∷◌, ◌++◌, length, take, drop, get_or, Option, Some, None, Result, Ok, Err, unwrap_or, refl, sym, ap, subst, ◌∙◌, arith, inl, inr, append_assoc, drop-cons, length-drop}
 use Rattle.std.proofs.lemmas.Bool.{cases_lt}
 use Rattle.std.proofs.lemmas.Str.{IsUtf8-drop, IsCharBoundary-after_ascii}
 use Rattle.std.specs.Str.{IsUtf8}
@@ -11,6 +11,7 @@ use Rattle.cr_syntax.specs.declared.token.TokenKind.TheVariants.{End}
 use Rattle.cr_syntax.specs.Lexes.{Before, start, outermost, behind, place_of, is_spaced, form_by, form_of, spells, IsToken, IsEnd, LexesFrom}
 use Rattle.cr_syntax.specs.Faults.{fault_at, IsStuck, FailsFrom}
 use Rattle.cr_lex.specs.Longest.{IsLongest, HasNone}
+use Rattle.cr_lex.specs.Step.{ReadsForm, Stands, token_by}
 use Rattle.cr_lex.proofs.Slices.{all_behind}
 
 abbrev pub token : ℕ → ℕ → Bool → TokenKind → Token
@@ -123,7 +124,7 @@ module _ (source : List ℕ) (before : Before) (at : ℕ) where
   found_here n kind t below same is = subst (λ (u : Token). IsToken source before at u) (sym same)
       (is_token source before at n kind below (subst (λ (bs : List ℕ). IsLongest (form_by before (is_spaced source at) (get_or bs 0 0)) (drop 1 bs) n kind) (all_behind (place_of source at) source) is))
 
-  pub token_found : (n : ℕ) (kind : TokenKind) (t : Token) (p : ℕ) (sp : Bool) → p ≡ place_of source at → sp ≡ is_spaced source at → FoundAt n kind t p sp
+  token_found : (n : ℕ) (kind : TokenKind) (t : Token) (p : ℕ) (sp : Bool) → p ≡ place_of source at → sp ≡ is_spaced source at → FoundAt n kind t p sp
   token_found n kind t p sp e f = subst (λ (q : ℕ). FoundAt n kind t q sp) (sym e) (subst (FoundAt n kind t (place_of source at)) (sym f) (found_here n kind t))
 
   abbrev StuckAt : LexFault → ℕ → Bool → Type 0
@@ -136,5 +137,10 @@ module _ (source : List ℕ) (before : Before) (at : ℕ) where
       (subst (λ (bs : List ℕ). HasNone (form_by before (is_spaced source at) (get_or bs 0 0)) (drop 1 bs)) same none)
       (e ∙ ap (fault_at before (place_of source at)) same)
 
-  pub stuck_found : (f : LexFault) (p : ℕ) (sp : Bool) → p ≡ place_of source at → sp ≡ is_spaced source at → StuckAt f p sp
+  stuck_found : (f : LexFault) (p : ℕ) (sp : Bool) → p ≡ place_of source at → sp ≡ is_spaced source at → StuckAt f p sp
   stuck_found f p sp e g = subst (λ (q : ℕ). StuckAt f q sp) (sym e) (subst (StuckAt f (place_of source at)) (sym g) (stuck_here f))
+
+  pub stands_by : (p : ℕ) (sp : Bool) (r : Result (TokenKind × ℕ) LexFault) → p ≡ place_of source at → sp ≡ is_spaced source at → p < length source
+      → ReadsForm (form_by before sp (get_or (sliced source p) 0 0)) (drop 1 (sliced source p)) (fault_at before p (sliced source p)) r → Stands source before at (token_by p sp r)
+  stands_by p sp (Ok found) e g below reads = token_found found.1 found.0 (token p (p + 1 + found.1) sp found.0) p sp e g below refl reads
+  stands_by p sp (Err f) e g below reads = λ apart. stuck_found f p sp e g below (reads apart).0 (reads apart).1

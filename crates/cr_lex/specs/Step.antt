@@ -1,5 +1,5 @@
 -- One token after the other.
-use Rattle.std.specs.Prelude.{◌≡◌, ◌≢◌, ℕ, false, List, [], ◌∷◌, ◌++◌, ◌⊎◌, Option, Some, None, Result, Ok, Err}
+use Rattle.std.specs.Prelude.{◌≡◌, ◌≢◌, ℕ, ◌+◌, Bool, false, List, [], ◌∷◌, ◌++◌, Option, Some, None, Result, Ok, Err}
 use Rattle.cr_syntax.specs.declared.fault.LexFault.{LexFault}
 use Rattle.cr_syntax.specs.declared.fault.LexFault.TheVariants.{NoMemory}
 use Rattle.cr_syntax.specs.declared.token.Token.{Token}
@@ -22,10 +22,15 @@ abbrev pub ReadsForm : Form → List ℕ → LexFault → Result (TokenKind × �
 ReadsForm form bytes f (Ok found) = IsLongest form bytes found.1 found.0
 ReadsForm form bytes f (Err e) = e ≢ NoMemory → HasNone form bytes × (e ≡ f)
 
--- what stands next behind `at`
+-- the token that stands next behind `at`
 abbrev pub Stands : List ℕ → Before → ℕ → Result Token LexFault → Type 0
-Stands source before at (Ok t) = IsEnd source before at t ⊎ IsToken source before at t
+Stands source before at (Ok t) = IsToken source before at t
 Stands source before at (Err e) = e ≢ NoMemory → IsStuck source before at e
+
+-- the token at `place` of this kind, with so many of its bytes behind the first
+abbrev pub token_by : ℕ → Bool → Result (TokenKind × ℕ) LexFault → Result Token LexFault
+token_by place spaced (Ok found) = Ok (record { kind = found.0; span = record { first = place; past = place + 1 + found.1 }; spaced = spaced })
+token_by place spaced (Err e) = Err e
 
 -- what one more token changes: what the tokens before leave, and the tokens so far
 pub record Adds (before : Before) (found : List Token) (after : Before) (found' : List Token) (t : Token) : Type 0 where

@@ -9,7 +9,7 @@ ghost use Rattle.cr_syntax.specs.Faults.{text_fault, fault_at, TextFails};
 ghost use Rattle.cr_lex.specs.Words.{word_form, constant_form, variable_form, operator_form};
 ghost use Rattle.cr_lex.specs.Numbers.{number_form};
 ghost use Rattle.cr_lex.specs.Texts.{part_form};
-ghost use Rattle.cr_lex.specs.Step.{before_of, digit_form, ReadsForm, Stands, Turns};
+ghost use Rattle.cr_lex.specs.Step.{before_of, digit_form, token_by, ReadsForm, Stands, Turns};
 
 use crate::bytes::{begins_constant, begins_digit, begins_name, gap_len, is_digit};
 use crate::numbers::number;
@@ -154,7 +154,7 @@ fn operator_token(place: u32, first: u8, more: &[u8]) -> Form
     ensures { ReadsForm (operator_form first) more.now (fault.BadByte place) result }
 {
     match operator(first, more) {
-        Some(found) => Ok(found),
+        Some((kind, len)) => Ok((kind, len)),
         None => Err(LexFault::BadByte(place)),
     }
 }
@@ -250,36 +250,45 @@ fn is_spaced(source: &[u8], at: usize, place: usize) -> bool
     at < place || place == 0 || source[place - 1] == b'\n'
 }
 
-/// The token that stands next behind `at`, or End.
-fn next_token(alloc: Global, source: &[u8], seen: &Seen, at: usize) -> Result<Token, LexFault>
+/// The kind of the token at `place`, and how many of its bytes stand behind the first.
+fn kind_at(alloc: Global, source: &[u8], seen: &Seen, at: usize, place: usize, spaced: bool) -> Form
     requires size { length source.now ≤ 1048576 }
     requires utf8 { IsUtf8 source.now }
-    requires within { at ≤ length source.now }
-    ensures { Stands source.now (before_of seen.now) at result }
+    requires value { place ≡ spec.place_of source.now at }
+    requires within { place < length source.now }
+    requires gap { spaced ≡ spec.is_spaced source.now at }
+    ensures { Stands source.now (before_of seen.now) at (token_by place spaced result) }
 {
-    let place = place_of(source, at);
-    let spaced = is_spaced(source, at, place);
-    let first = place as u32;
-    if place == source.len() {
-        return match outermost(&seen.nesting) {
-            Some(quote) => Err(LexFault::OpenString(quote)),
-            None => Ok(token_at(first, first, spaced, TokenKind::End)),
-        };
-    }
-    match form(alloc, seen, spaced, first, &source[place..]) {
-        Ok((kind, len)) => Ok(token_at(first, (place + 1 + len) as u32, spaced, kind)),
-        Err(fault) => Err(fault),
-    }
+    form(alloc, seen, spaced, place as u32, &source[place..])
 }
 
-fn token_at(first: u32, past: u32, spaced: bool, kind: TokenKind) -> Token
-    ensures { result ≡ record { kind = kind; span = record { first = first; past = past }; spaced = spaced } }
+/// The last turn: End goes last, where no text is open.
+fn end(
+    source: &[u8],
+    seen: &Seen,
+    at: usize,
+    spaced: bool,
+    tokens: &mut Vec<Token>,
+) -> Result<Option<usize>, LexFault>
+    requires size { length source.now ≤ 1048576 }
+    requires at_end { spec.place_of source.now at ≡ length source.now }
+    requires gap { spaced ≡ spec.is_spaced source.now at }
+    ensures { Turns source.now (before_of seen.now) at tokens.old.items result (before_of seen.now) tokens.new.items }
 {
-    Token {
-        kind,
-        span: Span { first, past },
-        spaced,
+    if let Some(quote) = outermost(&seen.nesting) {
+        return Err(LexFault::OpenString(quote));
     }
+    let past = source.len() as u32;
+    let span = Span { first: past, past };
+    let token = Token {
+        kind: TokenKind::End,
+        span,
+        spaced,
+    };
+    if tokens.push(token).is_err() {
+        return Err(LexFault::NoMemory);
+    }
+    Ok(None)
 }
 
 /// What is open behind a token that begins at `first`.
@@ -316,21 +325,31 @@ fn turn(
     requires within { at ≤ length source.now }
     ensures { Turns source.now (before_of seen.old) at tokens.old.items result (before_of seen.new) tokens.new.items }
 {
-    let token = match next_token(alloc, source, seen, at) {
-        Ok(token) => token,
+    let place = place_of(source, at);
+    let spaced = is_spaced(source, at, place);
+    if place == source.len() {
+        return end(source, seen, at, spaced, tokens);
+    }
+    let (kind, len) = match kind_at(alloc, source, seen, at, place, spaced) {
+        Ok(found) => found,
         Err(fault) => return Err(fault),
     };
-    let is_end = token.span.first as usize == source.len();
-    let past = token.span.past as usize;
-    let look = token.kind.look();
-    if nest(&mut seen.nesting, token.span.first, look).is_err() {
+    let first = place as u32;
+    let past = place + 1 + len;
+    let look = kind.look();
+    if nest(&mut seen.nesting, first, look).is_err() {
         return Err(LexFault::NoMemory);
     }
     seen.last = look;
+    let span = Span {
+        first,
+        past: past as u32,
+    };
+    let token = Token { kind, span, spaced };
     if tokens.push(token).is_err() {
         return Err(LexFault::NoMemory);
     }
-    Ok(if is_end { None } else { Some(past) })
+    Ok(Some(past))
 }
 
 /// The tokens of a text, or its fault.
