@@ -1,0 +1,5 @@
+pub mod Derive
+pub mod Spelled
+pub mod First
+pub mod Passing
+pub mod Unless

@@ -1,0 +1,9 @@
+pub mod Same
+pub mod Count
+pub mod Forms
+pub mod Operators
+pub mod Wanted
+pub mod Expressions
+pub mod Grammar
+pub mod Examples
+pub mod Laws

@@ -1,0 +1,23 @@
+ghost use Rattle.cr_grammar.specs.Laws.{DoIsNotTheirs, NoCommandInside, StatementsBegin, TypesBegin, UnlessHasNoElsif, ValuesBegin};
+
+/// What spells a value, a statement or a type has a first token, and it is one of those that begin such a construct.
+pub fn first_token_is_known()
+    ensures values { ValuesBegin }
+    ensures statements { StatementsBegin }
+    ensures types { TypesBegin }
+{}
+
+/// In the arguments of a command, where neither a brace nor a parenthesis opens, no call has arguments or a block.
+pub fn do_is_not_the_arguments()
+    ensures { DoIsNotTheirs }
+{}
+
+/// An `unless` has no branches of `elsif`.
+pub fn unless_has_no_elsif()
+    ensures { UnlessHasNoElsif }
+{}
+
+/// Inside parentheses and brackets, where no brace, parenthesis or `do` opens, no call has arguments or a block.
+pub fn no_command_stands_inside()
+    ensures { NoCommandInside }
+{}
