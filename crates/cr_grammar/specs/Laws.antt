@@ -85,13 +85,14 @@ abbrev pub none_opens : Bool → List Token → Bool
 none_opens free [] = true
 none_opens free (t ∷ ts) = not (opens free (look_of t.kind)) && none_opens free ts
 
--- In the arguments of a command, where neither a brace nor a parenthesis opens, no call passes anything: a `do` is not
--- theirs.
+-- In the arguments of a command, where neither a brace nor a parenthesis opens, no argument is itself a call that passes
+-- something: a `do` is not theirs.
 abbrev pub DoIsNotTheirs : Type 0
 DoIsNotTheirs = (n : ℕ) (within : Within) (w : List Token) (xs : List Tree)
     → bare_arguments (Spells_in n) within w xs → IsTrue (none_opens false w) → any_passes xs ≡ false
 
--- Inside parentheses and brackets, where no brace, parenthesis or `do` opens, no call passes anything: there is no command.
+-- Inside parentheses and brackets, where no brace, parenthesis or `do` opens, nothing is itself a call that passes something:
+-- there is no command.
 abbrev pub NoCommandInside : Type 0
 NoCommandInside = (n : ℕ) (within : Within) (free : Bool) (w : List Token) (xs : List Tree)
     → inside (Spells_in n) within free w xs → IsTrue (none_opens true w) → any_passes xs ≡ false

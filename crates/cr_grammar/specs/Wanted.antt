@@ -33,10 +33,6 @@ in_object within = within.class && within.method
 abbrev pub top : Within
 top = record { class = false; method = false; initialize = false; block = false; in_loop = false }
 
--- in a class or module, outside its methods
-abbrev pub in_class : Within
-in_class = record top { class = true }
-
 -- in a method of this name; the flag tells whether it is one of a class or module
 abbrev pub in_method : Bool → List ℕ → Within
 in_method class name = record { class = class; method = true; initialize = class && bytes_eq name o.initialize_name; block = false; in_loop = false }

@@ -7,7 +7,8 @@ pub fn first_token_is_known()
     ensures types { TypesBegin }
 {}
 
-/// In the arguments of a command, where neither a brace nor a parenthesis opens, no call has arguments or a block.
+/// Where neither a brace nor a parenthesis opens in the arguments of a command, none of them is itself a call with arguments
+/// or a block. It says nothing of what stands deeper in them.
 pub fn do_is_not_the_arguments()
     ensures { DoIsNotTheirs }
 {}
@@ -17,7 +18,8 @@ pub fn unless_has_no_elsif()
     ensures { UnlessHasNoElsif }
 {}
 
-/// Inside parentheses and brackets, where no brace, parenthesis or `do` opens, no call has arguments or a block.
+/// Where no brace, parenthesis or `do` opens inside parentheses or brackets, nothing there is itself a call with arguments or
+/// a block. It says nothing of what stands deeper.
 pub fn no_command_stands_inside()
     ensures { NoCommandInside }
 {}
