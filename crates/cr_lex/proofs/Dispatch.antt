@@ -1,5 +1,5 @@
 -- A form is chosen by the first byte.
-use Rattle.std.proofs.Common.{◌≡◌, ℕ, zero, suc, ◌+◌, ◌-◌, ◌<◌, ◌≤◌, Bool, true, false, ◌&&◌, List, [], ◌∷◌, ◌++◌, length, take, drop, get_or, ◌==◌, None, Result, Ok, Err, refl, sym, ap, subst, ◌∙◌, arith, inl, inr}
+use Rattle.std.proofs.Common.{◌≡◌, ℕ, zero, suc, ◌+◌, ◌-◌, ◌<◌, ◌≤◌, Bool, true, false, not, ◌&&◌, ◌||◌, List, [], ◌∷◌, ◌++◌, length, take, drop, get_or, ◌==◌, None, Result, Ok, Err, refl, sym, ap, subst, ◌∙◌, arith, inl, inr}
 use Rattle.std.proofs.lemmas.Bool.{eqb-true}
 use Rattle.std.proofs.lemmas.Bool.Decides.{eqb_tells}
 use Rattle.std.proofs.lemmas.List.{take-append-drop}
@@ -11,11 +11,12 @@ use Rattle.cr_syntax.specs.Operators.{operator_of}
 use Rattle.cr_syntax.specs.Lexes.{Before, in_insertion, takes_minus, form_by}
 use Rattle.cr_syntax.specs.Faults.{text_fault, fault_at}
 use Rattle.cr_lex.specs.Longest.{Form, IsLongest, HasNone}
-use Rattle.cr_lex.specs.Words.{word_form, constant_form, operator_form}
+use Rattle.cr_lex.specs.Words.{word_form, constant_form, operator_form, begins_content}
 use Rattle.cr_lex.specs.Numbers.{number_form}
 use Rattle.cr_lex.specs.Texts.{Bad, Unended, scan}
-use Rattle.cr_lex.specs.Step.{digit_form, ReadsForm}
+use Rattle.cr_lex.specs.Step.{begins_sign, digit_form, ReadsForm}
 use Rattle.cr_lex.proofs.Slices.{all_behind}
+use Rattle.cr_lex.proofs.WordBytes.{first_true, second_true, or_false}
 use Rattle.cr_lex.proofs.PartsRead.{says_so}
 
 -- ---- a number from its first digit on
@@ -61,6 +62,21 @@ carry F G bytes f g (Err e) same faults reads = λ other. let h = reads other in
 eqb_false : (a b : ℕ) → (a ≡ b → ⊥) → (a == b) ≡ false
 eqb_false a b never = elim (eqb_tells a b) [ inl (t, e) ↦ absurd (never e) | inr (f, ne) ↦ f ]
 
+not_true : (b : Bool) → not b ≡ true → b ≡ false
+not_true false e = refl
+not_true true e = absurd cc
+
+-- one of the tests holds, and it is none of the first
+last_left : (d n c v q b m : Bool) → d ≡ false → n ≡ false → c ≡ false → v ≡ false → q ≡ false → b ≡ false → (not (d || (n || (c || (v || q)))) && (not b && not m)) ≡ false → m ≡ true
+last_left d n c v q b true pd pn pc pv pq pb e = refl
+last_left false false false false false false false pd pn pc pv pq pb e = absurd cc
+last_left true n c v q b false pd pn pc pv pq pb e = absurd cc
+last_left false true c v q b false pd pn pc pv pq pb e = absurd cc
+last_left false false true v q b false pd pn pc pv pq pb e = absurd cc
+last_left false false false true q b false pd pn pc pv pq pb e = absurd cc
+last_left false false false false true b false pd pn pc pv pq pb e = absurd cc
+last_left false false false false false true false pd pn pc pv pq pb e = absurd cc
+
 abbrev Read : Type 0
 Read = Result (TokenKind × ℕ) LexFault
 
@@ -105,52 +121,93 @@ module _ (before : Before) (spaced : Bool) (place : ℕ) where
   abbrev Sliced : List ℕ → List ℕ
   Sliced rest = take (length rest - 1) (drop 1 rest)
 
-  record IsOther (b : ℕ) (bs : List ℕ) : Type 0 where
+  -- nothing begins with the byte but an operator, the end of a line or, by the last test, a signed number
+  record IsOther (b : ℕ) (bs : List ℕ) (signed : Bool) : Type 0 where
     digit : is_digit b ≡ false
     name : begins_name b ≡ false
     constant : begins_constant b ≡ false
     variable : (b == 64) ≡ false
     quote : (b == 34) ≡ false
     brace : (b == 125 && in_insertion before) ≡ false
-    minus : (b == 45 && (takes_minus before spaced && begins is_digit bs)) ≡ false
+    minus : (b == 45 && (takes_minus before spaced && begins is_digit bs)) ≡ signed
 
-  other_same : (b : ℕ) (bs : List ℕ) (m : ℕ) → IsOther b bs → form_by before spaced b (take m bs) (drop m bs) ≡ operator_form b (take m bs) (drop m bs)
+  and_assoc : (x y z : Bool) → (x && y && z) ≡ (x && (y && z))
+  and_assoc true y z = refl
+  and_assoc false y z = refl
+
+  -- the last test, of what stands behind the byte in two parts
+  minus_parts : (b : ℕ) (bs : List ℕ) (m : ℕ) (signed : Bool) → IsOther b bs signed → (b == 45 && takes_minus before spaced && begins is_digit (take m bs ++ drop m bs)) ≡ signed
+  minus_parts b bs m signed is =
+      and_assoc (b == 45) (takes_minus before spaced) (begins is_digit (take m bs ++ drop m bs))
+      ∙ ap (λ (xs : List ℕ). b == 45 && (takes_minus before spaced && begins is_digit xs)) (take-append-drop m bs) ∙ is.minus
+
+  other_same : (b : ℕ) (bs : List ℕ) (m : ℕ) → IsOther b bs false → form_by before spaced b (take m bs) (drop m bs) ≡ operator_form b (take m bs) (drop m bs)
   other_same b bs m is =
       let digit = is.digit in let name = is.name in let constant = is.constant in let variable = is.variable in let quote = is.quote in let brace = is.brace in
-      let minus : (b == 45 && takes_minus before spaced && begins is_digit (take m bs ++ drop m bs)) ≡ false =
-      and_assoc (b == 45) (takes_minus before spaced) (begins is_digit (take m bs ++ drop m bs))
-      ∙ ap (λ (xs : List ℕ). b == 45 && (takes_minus before spaced && begins is_digit xs)) (take-append-drop m bs) ∙ is.minus in
+      let minus = minus_parts b bs m false is in
       rw (digit, name, constant, variable, quote, brace, minus) refl
-    where
-      and_assoc : (x y z : Bool) → (x && y && z) ≡ (x && (y && z))
-      and_assoc true y z = refl
-      and_assoc false y z = refl
 
-  other_fault : (b : ℕ) (bs : List ℕ) → IsOther b bs → (b == 45) ≡ false → fault_at before place (b ∷ bs) ≡ fault.BadByte place
+  signed_same : (b : ℕ) (bs : List ℕ) (m : ℕ) → IsOther b bs true → form_by before spaced b (take m bs) (drop m bs) ≡ number_form true (take m bs) (drop m bs)
+  signed_same b bs m is =
+      let digit = is.digit in let name = is.name in let constant = is.constant in let variable = is.variable in let quote = is.quote in let brace = is.brace in
+      let minus = minus_parts b bs m true is in
+      rw (digit, name, constant, variable, quote, brace, minus) refl
+
+  other_fault : (b : ℕ) (bs : List ℕ) → IsOther b bs false → (b == 45) ≡ false → fault_at before place (b ∷ bs) ≡ fault.BadByte place
   other_fault b bs is minus = let digit = is.digit in let quote = is.quote in let brace = is.brace in rw (quote, brace, digit, minus) refl
 
-  by_minus_test : (b : ℕ) (bs : List ℕ) (t : Bool) → (b == 45) ≡ t → IsOther b bs → HasNone (operator_form b) bs → fault_at before place (b ∷ bs) ≡ fault.BadByte place
+  signed_fault : (b : ℕ) (bs : List ℕ) → IsOther b bs true → fault_at before place (b ∷ bs) ≡ fault.BadNumber place
+  signed_fault b bs is =
+      let digit = is.digit in let quote = is.quote in let brace = is.brace in
+      let minus = first_true (b == 45) (takes_minus before spaced && begins is_digit bs) is.minus in
+      rw (quote, brace, digit, minus) refl
+
+  by_minus_test : (b : ℕ) (bs : List ℕ) (t : Bool) → (b == 45) ≡ t → IsOther b bs false → HasNone (operator_form b) bs → fault_at before place (b ∷ bs) ≡ fault.BadByte place
   by_minus_test b bs false e is none = other_fault b bs is e
   by_minus_test b bs true e is none = absurd (let at : b ≡ 45 = eqb-true b 45 e in let no : operator_of (45 ∷ []) ≡ None = subst (λ (c : ℕ). operator_of (c ∷ []) ≡ None) at (none 0 (omega arith)) in cc)
 
-  other : (b : ℕ) (bs : List ℕ) (r : Read) → IsOther b bs → ReadsForm (operator_form b) bs (fault.BadByte place) r → ReadsForm (form_by before spaced b) bs (fault_at before place (b ∷ bs)) r
+  other : (b : ℕ) (bs : List ℕ) (r : Read) → IsOther b bs false → ReadsForm (operator_form b) bs (fault.BadByte place) r → ReadsForm (form_by before spaced b) bs (fault_at before place (b ∷ bs)) r
   other b bs (Ok found) is reads = carry_longest (form_by before spaced b) (operator_form b) bs found.1 found.0 (λ m within. other_same b bs m is) reads
   other b bs (Err e) is reads = λ apart. let h = reads apart in
       ((λ m within. other_same b bs m is ∙ h.0 m within), h.1 ∙ sym (by_minus_test b bs (b == 45) refl is h.0))
 
-  pub by_operator : (rest : List ℕ) (r : Read) → 0 < length rest → is_digit (get_or rest 0 0) ≡ false → begins_name (get_or rest 0 0) ≡ false → begins_constant (get_or rest 0 0) ≡ false
+  is_other : (b : ℕ) (bs : List ℕ) → begins_sign before spaced b bs ≡ true → IsOther b bs false
+  is_other b bs e =
+      let content = first_true (not (begins_content b)) (not (b == 125 && in_insertion before) && not (b == 45 && (takes_minus before spaced && begins is_digit bs))) e in
+      let rest = second_true (not (begins_content b)) (not (b == 125 && in_insertion before) && not (b == 45 && (takes_minus before spaced && begins is_digit bs))) e in
+      let not_content : begins_content b ≡ false = not_true (begins_content b) content in
+      let not_digit = or_false (is_digit b) (begins_name b || (begins_constant b || (b == 64 || b == 34))) not_content in
+      let not_name = or_false (begins_name b) (begins_constant b || (b == 64 || b == 34)) not_digit.1 in
+      let not_constant = or_false (begins_constant b) (b == 64 || b == 34) not_name.1 in
+      let not_mark = or_false (b == 64) (b == 34) not_constant.1 in
+      record {
+        digit = not_digit.0;
+        name = not_name.0;
+        constant = not_constant.0;
+        variable = not_mark.0;
+        quote = not_mark.1;
+        brace = not_true (b == 125 && in_insertion before) (first_true (not (b == 125 && in_insertion before)) (not (b == 45 && (takes_minus before spaced && begins is_digit bs))) rest);
+        minus = not_true (b == 45 && (takes_minus before spaced && begins is_digit bs)) (second_true (not (b == 125 && in_insertion before)) (not (b == 45 && (takes_minus before spaced && begins is_digit bs))) rest);
+      }
+
+  pub by_sign : (b : ℕ) (bs : List ℕ) (r : Read) → begins_sign before spaced b bs ≡ true → ReadsForm (operator_form b) bs (fault.BadByte place) r → Wanted (b ∷ bs) r
+  by_sign b bs r is reads = other b bs r (is_other b bs is) reads
+
+  pub by_minus : (rest : List ℕ) (r : Read) → 0 < length rest → is_digit (get_or rest 0 0) ≡ false → begins_name (get_or rest 0 0) ≡ false → begins_constant (get_or rest 0 0) ≡ false
       → (get_or rest 0 0 ≡ 64 → ⊥) → (get_or rest 0 0 ≡ 34 → ⊥) → (get_or rest 0 0 == 125 && in_insertion before) ≡ false
-      → (get_or rest 0 0 == 45 && (takes_minus before spaced && begins is_digit (Sliced rest))) ≡ false
-      → ReadsForm (operator_form (get_or rest 0 0)) (Sliced rest) (fault.BadByte place) r → Wanted rest r
-  by_operator [] r some d n c v q b m reads = absurd (omega arith)
-  by_operator (x ∷ xs) r some d n c v q b m reads = other x xs r
-      (record {
+      → begins_sign before spaced (get_or rest 0 0) (drop 1 rest) ≡ false
+      → ReadsForm (number_form true) (Sliced rest) (fault.BadNumber place) r → Wanted rest r
+  by_minus [] r some d n c v q b m reads = absurd (omega arith)
+  by_minus (x ∷ xs) r some d n c v q b m reads =
+      let is : IsOther x xs true = record {
         digit = d;
         name = n;
         constant = c;
         variable = eqb_false x 64 v;
         quote = eqb_false x 34 q;
         brace = b;
-        minus = ap (λ (ys : List ℕ). x == 45 && (takes_minus before spaced && begins is_digit ys)) (sym (all_behind 1 (x ∷ xs))) ∙ m;
-      })
-      (subst (λ (ys : List ℕ). ReadsForm (operator_form x) ys (fault.BadByte place) r) (all_behind 1 (x ∷ xs)) reads)
+        minus = last_left (is_digit x) (begins_name x) (begins_constant x) (x == 64) (x == 34) (x == 125 && in_insertion before) (x == 45 && (takes_minus before spaced && begins is_digit xs))
+            d n c (eqb_false x 64 v) (eqb_false x 34 q) b m;
+      } in
+      carry (form_by before spaced x) (number_form true) xs (fault_at before place (x ∷ xs)) (fault.BadNumber place) r (λ i within. signed_same x xs i is) (signed_fault x xs is)
+      (subst (λ (ys : List ℕ). ReadsForm (number_form true) ys (fault.BadNumber place) r) (all_behind 1 (x ∷ xs)) reads)

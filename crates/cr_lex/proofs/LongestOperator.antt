@@ -1,9 +1,12 @@
 -- The longest operator at the front.
-use Rattle.std.proofs.Common.{◌≡◌, ℕ, zero, suc, ◌<◌, ◌≤◌, Bool, true, false, ◌&&◌, List, [], ◌∷◌, length, take, drop, Some, None, refl, sym, arith}
+use Rattle.std.proofs.Common.{◌≡◌, ℕ, zero, suc, ◌<◌, ◌≤◌, Bool, true, false, cond, ◌&&◌, List, [], ◌∷◌, length, take, drop, ◌==◌, Option, Some, None, refl, sym, subst, ◌∙◌, arith}
+use Rattle.std.proofs.lemmas.Bool.{eqb-true}
 use Rattle.cr_syntax.specs.declared.token.TokenKind.{TokenKind}
+use Rattle.cr_syntax.specs.declared.token.TokenKind.TheVariants as k
 use Rattle.cr_syntax.specs.Operators.{operator_of}
 use Rattle.cr_lex.specs.Longest.{IsLongest, HasNone}
 use Rattle.cr_lex.specs.Words.{operator_form, two_at, three_at}
+use Rattle.cr_lex.proofs.WordBytes.{first_true, second_true}
 
 and_false : (b : Bool) → (b && false) ≡ false
 and_false true = refl
@@ -35,6 +38,34 @@ past_one a bs none two zero above within = absurd (omega arith)
 past_one a [] none two (suc zero) above within = absurd (omega arith)
 past_one a (b ∷ bs) none two (suc zero) above within = two
 past_one a bs none two (suc (suc m)) above within = past_two a bs none (suc (suc m)) (omega arith) within
+
+apart : (x y z : Bool) (o p : Option TokenKind) → (x && y) ≡ false → cond (x && (y && z)) o p ≡ p
+apart false y z o p e = refl
+apart true false z o p e = refl
+apart true true z o p e = absurd cc
+
+-- the operators of three bytes
+by_three : (a b c : ℕ) → operator_of (a ∷ b ∷ c ∷ []) ≡ cond (a == 47 && (b == 47 && (c == 61 && true))) (Some k.SlashSlashEqual) (cond (a == 124 && (b == 124 && (c == 61 && true))) (Some k.OrOrEqual) None)
+by_three a b c = simp and_false
+
+not_twice : (a b d : ℕ) → (operator_of (d ∷ d ∷ []) ≡ None → ⊥) → operator_of (a ∷ b ∷ []) ≡ None → (a == d && b == d) ≡ false
+not_twice a b d never e = by_test (a == d && b == d) refl
+  where
+    by_test : (t : Bool) → (a == d && b == d) ≡ t → t ≡ false
+    by_test false is = refl
+    by_test true is =
+        let first : a ≡ d = eqb-true a d (first_true (a == d) (b == d) is) in
+        let second : b ≡ d = eqb-true b d (second_true (a == d) (b == d) is) in
+        absurd (never (subst (λ (x : ℕ). operator_of (x ∷ d ∷ []) ≡ None) first (subst (λ (y : ℕ). operator_of (a ∷ y ∷ []) ≡ None) second e)))
+
+-- every operator of three bytes begins with one of two
+pub no_three : (a : ℕ) (bs : List ℕ) → two_at a bs ≡ None → three_at a bs ≡ None
+no_three a [] e = refl
+no_three a (b ∷ []) e = refl
+no_three a (b ∷ c ∷ bs) e =
+    by_three a b c
+    ∙ apart (a == 47) (b == 47) (c == 61 && true) (Some k.SlashSlashEqual) (cond (a == 124 && (b == 124 && (c == 61 && true))) (Some k.OrOrEqual) None) (not_twice a b 47 (λ no. cc) e)
+    ∙ apart (a == 124) (b == 124) (c == 61 && true) (Some k.OrOrEqual) None (not_twice a b 124 (λ no. cc) e)
 
 pub longest_three : (a : ℕ) (bs : List ℕ) (kind : TokenKind) → Some kind ≡ three_at a bs → IsLongest (operator_form a) bs 2 kind
 longest_three a [] kind e = absurd cc

@@ -1,5 +1,5 @@
 -- What stands next, and a source read token by token.
-use Rattle.std.proofs.Common.{◌≡◌, ℕ, zero, suc, ◌+◌, ◌-◌, ◌<◌, ◌≤◌, Bool, List, [], ◌∷◌, ◌++◌, length, take, drop, get_or, Option, Some, None, Result, Ok, Err, unwrap_or, refl, sym, ap, subst, ◌∙◌, arith, inl, inr, append_assoc, drop-cons, length-drop}
+use Rattle.std.proofs.Common.{◌≡◌, ℕ, zero, suc, ◌+◌, ◌-◌, ◌<◌, ◌≤◌, Bool, true, List, [], ◌∷◌, ◌++◌, length, take, drop, get_or, Option, Some, None, Result, Ok, Err, unwrap_or, refl, sym, ap, subst, ◌∙◌, arith, inl, inr, append_assoc, drop-cons, length-drop}
 use Rattle.std.proofs.lemmas.Bool.{cases_lt}
 use Rattle.std.proofs.lemmas.Str.{IsUtf8-drop, IsCharBoundary-after_ascii}
 use Rattle.std.specs.Str.{IsUtf8}
@@ -11,7 +11,9 @@ use Rattle.cr_syntax.specs.declared.token.TokenKind.TheVariants.{End}
 use Rattle.cr_syntax.specs.Lexes.{Before, start, outermost, behind, place_of, is_spaced, form_by, form_of, spells, IsToken, IsEnd, LexesFrom}
 use Rattle.cr_syntax.specs.Faults.{fault_at, IsStuck, FailsFrom}
 use Rattle.cr_lex.specs.Longest.{IsLongest, HasNone}
-use Rattle.cr_lex.specs.Step.{ReadsForm, Stands, token_by}
+use Rattle.cr_lex.specs.Words.{operator_form}
+use Rattle.cr_lex.specs.Step.{begins_sign, ReadsForm, Stands, token_by}
+use Rattle.cr_lex.proofs.Dispatch.{by_sign}
 use Rattle.cr_lex.proofs.Slices.{all_behind}
 
 abbrev pub token : ℕ → ℕ → Bool → TokenKind → Token
@@ -144,3 +146,18 @@ module _ (source : List ℕ) (before : Before) (at : ℕ) where
       → ReadsForm (form_by before sp (get_or (sliced source p) 0 0)) (drop 1 (sliced source p)) (fault_at before p (sliced source p)) r → Stands source before at (token_by p sp r)
   stands_by p sp (Ok found) e g below reads = token_found found.1 found.0 (token p (p + 1 + found.1) sp found.0) p sp e g below refl reads
   stands_by p sp (Err f) e g below reads = λ apart. stuck_found f p sp e g below (reads apart).0 (reads apart).1
+
+-- an operator, or the end of a line, at the place
+pub sign_stands : (source : List ℕ) (before : Before) (at p : ℕ) (sp : Bool) (r : Result (TokenKind × ℕ) LexFault) → p ≡ place_of source at → sp ≡ is_spaced source at → p < length source
+    → begins_sign before sp (get_or source p 0) (drop (p + 1) source) ≡ true
+    → ReadsForm (operator_form (get_or source p 0)) (take (length source - (p + 1)) (drop (p + 1) source)) (fault.BadByte p) r → Stands source before at (token_by p sp r)
+sign_stands source before at p sp r e g below is reads =
+    let same : sliced source p ≡ get_or source p 0 ∷ drop (suc p) source = all_behind p source ∙ drop-cons source p 0 below in
+    let one : p + 1 ≡ suc p = omega arith in
+    let here : ReadsForm (operator_form (get_or source p 0)) (drop (suc p) source) (fault.BadByte p) r =
+    subst (λ (i : ℕ). ReadsForm (operator_form (get_or source p 0)) (drop i source) (fault.BadByte p) r) one
+    (subst (λ (bs : List ℕ). ReadsForm (operator_form (get_or source p 0)) bs (fault.BadByte p) r) (all_behind (p + 1) source) reads) in
+    let sign : begins_sign before sp (get_or source p 0) (drop (suc p) source) ≡ true = subst (λ (i : ℕ). begins_sign before sp (get_or source p 0) (drop i source) ≡ true) one is in
+    stands_by source before at p sp r e g below
+    (subst (λ (bs : List ℕ). ReadsForm (form_by before sp (get_or bs 0 0)) (drop 1 bs) (fault_at before p bs) r) (sym same)
+    (by_sign before sp p (get_or source p 0) (drop (suc p) source) r sign here))

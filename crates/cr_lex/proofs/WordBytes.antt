@@ -34,6 +34,16 @@ pub or_cases : (b c : Bool) → (b || c) ≡ true → (b ≡ true) ⊎ (c ≡ tr
 or_cases true c e = inl refl
 or_cases false c e = inr e
 
+pub and_swapped : (b c : Bool) → (b && c) ≡ (c && b)
+and_swapped true true = refl
+and_swapped true false = refl
+and_swapped false true = refl
+and_swapped false false = refl
+
+pub or_false : (b c : Bool) → (b || c) ≡ false → (b ≡ false) × (c ≡ false)
+or_false false c e = (refl, e)
+or_false true c e = absurd cc
+
 pub not_both : {A : Type 0} (b : Bool) → b ≡ true → b ≡ false → A
 not_both b p q = absurd cc
 

@@ -1,17 +1,24 @@
 -- One token after the other.
-use Rattle.std.specs.Prelude.{◌≡◌, ◌≢◌, ℕ, ◌+◌, Bool, false, List, [], ◌∷◌, ◌++◌, Option, Some, None, Result, Ok, Err}
+use Rattle.std.specs.Prelude.{◌≡◌, ◌≢◌, ℕ, ◌+◌, Bool, false, not, ◌&&◌, ◌==◌, List, [], ◌∷◌, ◌++◌, Option, Some, None, Result, Ok, Err}
 use Rattle.cr_syntax.specs.declared.fault.LexFault.{LexFault}
 use Rattle.cr_syntax.specs.declared.fault.LexFault.TheVariants.{NoMemory}
 use Rattle.cr_syntax.specs.declared.token.Token.{Token}
 use Rattle.cr_syntax.specs.declared.token.TokenKind.{TokenKind}
-use Rattle.cr_syntax.specs.Lexes.{Before, behind, IsToken, IsEnd}
+use Rattle.cr_syntax.specs.Words.{is_digit, begins}
+use Rattle.cr_syntax.specs.Lexes.{Before, in_insertion, takes_minus, behind, IsToken, IsEnd}
 use Rattle.cr_syntax.specs.Faults.{IsStuck}
 use Rattle.cr_lex.specs.declared.lexer.Seen.{Seen}
 use Rattle.cr_lex.specs.Longest.{Form, IsLongest, HasNone}
 use Rattle.cr_lex.specs.Numbers.{number_form}
+use Rattle.cr_lex.specs.Words.{begins_content}
 
 abbrev pub before_of : Seen → Before
 before_of seen = record { nesting = seen.nesting.items; last = seen.last }
+
+-- whether what begins with the byte can only be an operator or the end of a line; `more` stands behind it
+abbrev pub begins_sign : Before → Bool → ℕ → List ℕ → Bool
+begins_sign before spaced b more =
+    not (begins_content b) && (not (b == 125 && in_insertion before) && not (b == 45 && (takes_minus before spaced && begins is_digit more)))
 
 -- a number from its first digit on
 abbrev pub digit_form : ℕ → Form
@@ -28,8 +35,11 @@ Stands source before at (Ok t) = IsToken source before at t
 Stands source before at (Err e) = e ≢ NoMemory → IsStuck source before at e
 
 -- the token at `place` of this kind, with so many of its bytes behind the first
+abbrev pub token_at : ℕ → Bool → TokenKind → ℕ → Token
+token_at place spaced kind n = record { kind = kind; span = record { first = place; past = place + 1 + n }; spaced = spaced }
+
 abbrev pub token_by : ℕ → Bool → Result (TokenKind × ℕ) LexFault → Result Token LexFault
-token_by place spaced (Ok found) = Ok (record { kind = found.0; span = record { first = place; past = place + 1 + found.1 }; spaced = spaced })
+token_by place spaced (Ok found) = Ok (token_at place spaced found.0 found.1)
 token_by place spaced (Err e) = Err e
 
 -- what one more token changes: what the tokens before leave, and the tokens so far

@@ -1,5 +1,5 @@
 -- A part of a text read from the left.
-use Rattle.std.specs.Prelude.{ℕ, ◌+◌, Bool, true, false, ◌&&◌, if◌then◌else◌, ◌==◌, List, [], ◌∷◌, ◌++◌, Option, Some, None}
+use Rattle.std.specs.Prelude.{ℕ, suc, ◌+◌, Bool, true, false, ◌&&◌, ◌||◌, if◌then◌else◌, ◌==◌, List, [], ◌∷◌, ◌++◌, Option, Some, None}
 use Rattle.std.specs.Option.{option_map}
 use Rattle.cr_syntax.specs.Words.{begins}
 use Rattle.cr_syntax.specs.Texts.{escape, Part, ended, part_of, part_kind}
@@ -40,3 +40,20 @@ scan false (b ∷ bs) =
     else (if b == 92 then behind_bytes 1 [] (scan true bs)
     else (if b == 35 && begins is_brace bs then Found (ended true) 2
     else behind_bytes 1 (b ∷ []) (scan false bs)))
+
+-- a quote, a backslash or a `#`: every other byte of a text stands for itself
+abbrev pub ends_plain : ℕ → Bool
+ends_plain b = b == 34 || (b == 92 || b == 35)
+
+-- how many bytes at the front stand for themselves
+abbrev pub plain_length : List ℕ → ℕ
+plain_length [] = 0
+plain_length (b ∷ bs) = if ends_plain b then 0 else suc (plain_length bs)
+
+-- where a part ends here: whether by `#{`
+abbrev pub ending_of : List ℕ → Option Bool
+ending_of [] = None
+ending_of (b ∷ bs) = if b == 34 then Some false else (if b == 35 && begins is_brace bs then Some true else None)
+
+abbrev pub ending_length : Bool → ℕ
+ending_length opens = if opens then 2 else 1

@@ -1,8 +1,8 @@
 -- Forms behind a first byte: words, constants and instance variables.
-use Rattle.std.specs.Prelude.{ℕ, suc, Bool, not, ◌&&◌, if◌then◌else◌, ◌==◌, List, [], ◌∷◌, Option, None}
+use Rattle.std.specs.Prelude.{ℕ, suc, Bool, not, ◌&&◌, ◌||◌, if◌then◌else◌, ◌==◌, List, [], ◌∷◌, Option, None}
 use Rattle.cr_syntax.specs.declared.token.TokenKind.{TokenKind}
 use Rattle.cr_syntax.specs.declared.token.TokenKind.TheVariants as k
-use Rattle.cr_syntax.specs.Words.{begins_name, is_word_byte, is_mark, begins, all_word_bytes, is_word_end, word_of}
+use Rattle.cr_syntax.specs.Words.{is_digit, begins_name, begins_constant, is_word_byte, is_mark, begins, all_word_bytes, is_word_end, word_of}
 use Rattle.cr_syntax.specs.Operators.{operator_of}
 use Rattle.cr_syntax.specs.Lexes.{when}
 use Rattle.cr_lex.specs.Longest.{Form}
@@ -18,6 +18,10 @@ variable_form text after = when (begins begins_name text && all_word_bytes text)
 
 abbrev pub operator_form : ℕ → Form
 operator_form b text after = operator_of (b ∷ text)
+
+-- whether a number, a word, an instance variable or a text begins with the byte
+abbrev pub begins_content : ℕ → Bool
+begins_content b = is_digit b || (begins_name b || (begins_constant b || (b == 64 || b == 34)))
 
 -- how many letters, digits and `_` stand at the front
 abbrev pub word_length : List ℕ → ℕ

@@ -2,7 +2,7 @@
 ghost use Rattle.std.specs.Prelude.{◌≡◌, ◌≤◌, ◌&&◌, not, if◌then◌else◌, length};
 ghost use Rattle.cr_syntax.specs.Words as spec;
 ghost use Rattle.cr_syntax.specs.Lexes.{is_blank, line_length, gap_length};
-ghost use Rattle.cr_lex.specs.Words.{word_length, marked_length, is_equal};
+ghost use Rattle.cr_lex.specs.Words.{begins_content as content_begins, word_length, marked_length, is_equal};
 ghost use Rattle.cr_lex.specs.Texts.{is_brace};
 
 pub fn is_digit(b: u8) -> bool
@@ -27,6 +27,13 @@ pub fn is_word_byte(b: u8) -> bool
     ensures { result ≡ spec.is_word_byte b }
 {
     begins_name(b) || begins_constant(b) || is_digit(b)
+}
+
+/// Whether a number, a word, an instance variable or a text begins with the byte.
+pub fn begins_content(b: u8) -> bool
+    ensures { result ≡ content_begins b }
+{
+    is_digit(b) || (begins_name(b) || (begins_constant(b) || (b == b'@' || b == b'"')))
 }
 
 fn is_mark(b: u8) -> bool

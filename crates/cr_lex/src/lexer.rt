@@ -1,5 +1,5 @@
 //! One token after the other.
-ghost use Rattle.std.specs.Prelude.{◌≡◌, ◌≢◌, ◌<◌, ◌≤◌, ◌+◌, ◌^◌, ◌==◌, ◌&&◌, length, drop, slice_index, unwrap_or, false, true, OnOk, IfOk, IfErr};
+ghost use Rattle.std.specs.Prelude.{◌≡◌, ◌≢◌, ◌<◌, ◌≤◌, ◌+◌, ◌^◌, ◌==◌, ◌&&◌, length, vec_len, vec_capacity, Some, drop, slice_index, unwrap_or, false, true, OnOk, IfOk, IfErr};
 ghost use Rattle.std.specs.Str.{IsUtf8};
 ghost use Rattle.cr_syntax.specs.declared.fault.LexFault.{LexFault};
 ghost use Rattle.cr_syntax.specs.declared.fault.LexFault.TheVariants as fault;
@@ -7,13 +7,14 @@ ghost use Rattle.cr_syntax.specs.Lexes as spec;
 ghost use Rattle.cr_syntax.specs.Words as class;
 ghost use Rattle.cr_syntax.specs.Faults.{text_fault, fault_at, TextFails};
 ghost use Rattle.cr_lex.specs.Words.{word_form, constant_form, variable_form, operator_form};
+ghost use Rattle.cr_lex.specs.Looks.{form_with_kind};
 ghost use Rattle.cr_lex.specs.Numbers.{number_form};
 ghost use Rattle.cr_lex.specs.Texts.{part_form};
-ghost use Rattle.cr_lex.specs.Step.{before_of, digit_form, token_by, ReadsForm, Stands, Turns};
+ghost use Rattle.cr_lex.specs.Step.{before_of, begins_sign as is_sign, digit_form, token_at, token_by, Adds, ReadsForm, Stands, Turns};
 
-use crate::bytes::{begins_constant, begins_digit, begins_name, gap_len, is_digit};
+use crate::bytes::{begins_constant, begins_content, begins_digit, begins_name, gap_len, is_digit};
 use crate::numbers::number;
-use crate::operators::operator;
+use crate::operators::{operator, plain_kind};
 use crate::texts::{PartFault, part};
 use crate::words::{constant, variable, word};
 use cr_base::NoMemory;
@@ -29,6 +30,9 @@ pub struct Seen {
 
 /// A token's kind, and how many of its bytes stand behind the first.
 type Form = Result<(TokenKind, usize), LexFault>;
+
+/// The same of an operator or the end of a line, by its look.
+type Sign = Result<(TokenLook, usize), LexFault>;
 
 /// The opening quote of the outermost text in whose insertion this is.
 fn outermost(nesting: &[Open]) -> Option<u32>
@@ -150,11 +154,11 @@ fn part_token(alloc: Global, quoted: bool, seen: &Seen, place: u32, more: &[u8])
     }
 }
 
-fn operator_token(place: u32, first: u8, more: &[u8]) -> Form
-    ensures { ReadsForm (operator_form first) more.now (fault.BadByte place) result }
+fn operator_token(place: u32, first: u8, more: &[u8]) -> Sign
+    ensures { ReadsForm (operator_form first) more.now (fault.BadByte place) (form_with_kind result) }
 {
     match operator(first, more) {
-        Some((kind, len)) => Ok((kind, len)),
+        Some(found) => Ok(found),
         None => Err(LexFault::BadByte(place)),
     }
 }
@@ -173,10 +177,19 @@ fn takes_minus(seen: &Seen, spaced: bool) -> bool
 }
 
 /// Whether the byte is a `-` that belongs to a number.
+#[tactic(auto, using(crate::proofs::WordBytes::and_swapped))]
 fn signs_number(first: u8, more: &[u8], seen: &Seen, spaced: bool) -> bool
     ensures { result ≡ (first == 45 && (spec.takes_minus (before_of seen.now) spaced && class.begins class.is_digit more.now)) }
 {
-    first == b'-' && (takes_minus(seen, spaced) && begins_digit(more))
+    first == b'-' && (begins_digit(more) && takes_minus(seen, spaced))
+}
+
+/// Whether what stands here can only be an operator or the end of a line.
+fn begins_sign(first: u8, more: &[u8], seen: &Seen, spaced: bool) -> bool
+    ensures { result ≡ is_sign (before_of seen.now) spaced first more.now }
+{
+    !begins_content(first)
+        && (!ends_insertion(first, seen) && !signs_number(first, more, seen, spaced))
 }
 
 /// The opening quote of the outermost text, where this one begins at `place`.
@@ -186,9 +199,10 @@ fn outer_quote(seen: &Seen, place: u32) -> u32
     outermost(&seen.nesting).unwrap_or(place)
 }
 
-/// The form of a text, a signed number, an operator or the end of a line.
-fn sign_form(alloc: Global, seen: &Seen, spaced: bool, place: u32, rest: &[u8]) -> Form
+/// The form of an instance variable, a text or a signed number.
+fn marked_form(alloc: Global, seen: &Seen, spaced: bool, place: u32, rest: &[u8]) -> Form
     requires some { 0 < length rest.now }
+    requires content { is_sign (before_of seen.now) spaced (slice_index rest.now 0) (drop 1 rest.now) ≡ false }
     requires digit { class.is_digit (slice_index rest.now 0) ≡ false }
     requires name { class.begins_name (slice_index rest.now 0) ≡ false }
     requires constant { class.begins_constant (slice_index rest.now 0) ≡ false }
@@ -207,15 +221,13 @@ fn sign_form(alloc: Global, seen: &Seen, spaced: bool, place: u32, rest: &[u8]) 
     if ends_insertion(first, seen) {
         return part_token(alloc, false, seen, place, more);
     }
-    if signs_number(first, more, seen, spaced) {
-        return minus_token(place, more);
-    }
-    operator_token(place, first, more)
+    minus_token(place, more)
 }
 
-/// The form at the front, by its first byte.
+/// The form at the front, by its first byte, where no operator begins.
 fn form(alloc: Global, seen: &Seen, spaced: bool, place: u32, rest: &[u8]) -> Form
     requires some { 0 < length rest.now }
+    requires content { is_sign (before_of seen.now) spaced (slice_index rest.now 0) (drop 1 rest.now) ≡ false }
     requires fits { place + length rest.now < 2 ^ 32 }
     requires utf8 { slice_index rest.now 0 < 128 → IsUtf8 (drop 1 rest.now) }
     ensures { ReadsForm (spec.form_by (before_of seen.now) spaced (slice_index rest.now 0)) (drop 1 rest.now) (fault_at (before_of seen.now) place rest.now) result }
@@ -230,7 +242,7 @@ fn form(alloc: Global, seen: &Seen, spaced: bool, place: u32, rest: &[u8]) -> Fo
     if begins_constant(first) {
         return constant_token(alloc, rest);
     }
-    sign_form(alloc, seen, spaced, place, rest)
+    marked_form(alloc, seen, spaced, place, rest)
 }
 
 /// Where the token begins that follows one that ends at `at`.
@@ -250,13 +262,34 @@ fn is_spaced(source: &[u8], at: usize, place: usize) -> bool
     at < place || place == 0 || source[place - 1] == b'\n'
 }
 
-/// The kind of the token at `place`, and how many of its bytes stand behind the first.
+/// Whether the token at `place` can only be an operator or the end of a line.
+fn is_sign_at(source: &[u8], seen: &Seen, place: usize, spaced: bool) -> bool
+    requires within { place < length source.now }
+    ensures { result ≡ is_sign (before_of seen.now) spaced (slice_index source.now place) (drop (place + 1) source.now) }
+{
+    begins_sign(source[place], &source[place + 1..], seen, spaced)
+}
+
+/// The look of the operator at `place`, and how many of its bytes stand behind the first.
+fn sign_at(source: &[u8], seen: &Seen, at: usize, place: usize, spaced: bool) -> Sign
+    requires size { length source.now ≤ 1048576 }
+    requires value { place ≡ spec.place_of source.now at }
+    requires within { place < length source.now }
+    requires gap { spaced ≡ spec.is_spaced source.now at }
+    requires sign { is_sign (before_of seen.now) spaced (slice_index source.now place) (drop (place + 1) source.now) ≡ true }
+    ensures { Stands source.now (before_of seen.now) at (token_by place spaced (form_with_kind result)) }
+{
+    operator_token(place as u32, source[place], &source[place + 1..])
+}
+
+/// The kind of the other token at `place`, and how many of its bytes stand behind the first.
 fn kind_at(alloc: Global, source: &[u8], seen: &Seen, at: usize, place: usize, spaced: bool) -> Form
     requires size { length source.now ≤ 1048576 }
     requires utf8 { IsUtf8 source.now }
     requires value { place ≡ spec.place_of source.now at }
     requires within { place < length source.now }
     requires gap { spaced ≡ spec.is_spaced source.now at }
+    requires content { is_sign (before_of seen.now) spaced (slice_index source.now place) (drop (place + 1) source.now) ≡ false }
     ensures { Stands source.now (before_of seen.now) at (token_by place spaced result) }
 {
     form(alloc, seen, spaced, place as u32, &source[place..])
@@ -273,6 +306,7 @@ fn end(
     requires size { length source.now ≤ 1048576 }
     requires at_end { spec.place_of source.now at ≡ length source.now }
     requires gap { spaced ≡ spec.is_spaced source.now at }
+    requires room { vec_len tokens.old < vec_capacity tokens.old }
     ensures { Turns source.now (before_of seen.now) at tokens.old.items result (before_of seen.now) tokens.new.items }
 {
     if let Some(quote) = outermost(&seen.nesting) {
@@ -280,18 +314,16 @@ fn end(
     }
     let past = source.len() as u32;
     let span = Span { first: past, past };
-    let token = Token {
+    tokens.push_reserved(Token {
         kind: TokenKind::End,
         span,
         spaced,
-    };
-    if tokens.push(token).is_err() {
-        return Err(LexFault::NoMemory);
-    }
+    });
     Ok(None)
 }
 
 /// What is open behind a token that begins at `first`.
+#[inline(always)]
 fn nest(nesting: &mut Vec<Open>, first: u32, look: TokenLook) -> Result<(), NoMemory>
     ensures { OnOk result (nesting.new.items ≡ spec.nesting_behind nesting.old.items first look) }
 {
@@ -312,6 +344,85 @@ fn nest(nesting: &mut Vec<Open>, first: u32, look: TokenLook) -> Result<(), NoMe
     }
 }
 
+/// The token of this kind at `place`, with so many bytes behind the first.
+fn token_of(place: usize, spaced: bool, kind: TokenKind, len: usize) -> Token
+    requires { place + 1 + len ≤ 1048576 }
+    ensures { result ≡ token_at place spaced kind len }
+{
+    let span = Span {
+        first: place as u32,
+        past: (place + 1 + len) as u32,
+    };
+    Token { kind, span, spaced }
+}
+
+/// The token goes last. Where it ends.
+#[inline(always)]
+fn added(token: Token, seen: &mut Seen, tokens: &mut Vec<Token>) -> Result<Option<usize>, LexFault>
+    requires { vec_len tokens.old < vec_capacity tokens.old }
+    ensures ok { IfOk result (λ past. (past ≡ Some token.span.past) × Adds (before_of seen.old) tokens.old.items (before_of seen.new) tokens.new.items token) }
+    ensures err { IfErr result (λ f. f ≡ fault.NoMemory) }
+{
+    let past = token.span.past as usize;
+    let look = token.kind.look();
+    if nest(&mut seen.nesting, token.span.first, look).is_err() {
+        return Err(LexFault::NoMemory);
+    }
+    seen.last = look;
+    tokens.push_reserved(token);
+    Ok(Some(past))
+}
+
+/// A turn at an operator or the end of a line.
+///
+/// It stands apart, so that such a token is built where it goes and not copied from call to call.
+fn sign_turn(
+    source: &[u8],
+    seen: &mut Seen,
+    at: usize,
+    place: usize,
+    spaced: bool,
+    tokens: &mut Vec<Token>,
+) -> Result<Option<usize>, LexFault>
+    requires size { length source.now ≤ 1048576 }
+    requires value { place ≡ spec.place_of source.now at }
+    requires within { place < length source.now }
+    requires gap { spaced ≡ spec.is_spaced source.now at }
+    requires sign { is_sign (before_of seen.old) spaced (slice_index source.now place) (drop (place + 1) source.now) ≡ true }
+    requires room { vec_len tokens.old < vec_capacity tokens.old }
+    ensures { Turns source.now (before_of seen.old) at tokens.old.items result (before_of seen.new) tokens.new.items }
+{
+    match sign_at(source, seen, at, place, spaced) {
+        Ok((look, len)) => added(token_of(place, spaced, plain_kind(look), len), seen, tokens),
+        Err(fault) => Err(fault),
+    }
+}
+
+/// A turn at another token.
+fn content_turn(
+    alloc: Global,
+    source: &[u8],
+    seen: &mut Seen,
+    at: usize,
+    place: usize,
+    spaced: bool,
+    tokens: &mut Vec<Token>,
+) -> Result<Option<usize>, LexFault>
+    requires size { length source.now ≤ 1048576 }
+    requires utf8 { IsUtf8 source.now }
+    requires value { place ≡ spec.place_of source.now at }
+    requires within { place < length source.now }
+    requires gap { spaced ≡ spec.is_spaced source.now at }
+    requires content { is_sign (before_of seen.old) spaced (slice_index source.now place) (drop (place + 1) source.now) ≡ false }
+    requires room { vec_len tokens.old < vec_capacity tokens.old }
+    ensures { Turns source.now (before_of seen.old) at tokens.old.items result (before_of seen.new) tokens.new.items }
+{
+    match kind_at(alloc, source, seen, at, place, spaced) {
+        Ok((kind, len)) => added(token_of(place, spaced, kind, len), seen, tokens),
+        Err(fault) => Err(fault),
+    }
+}
+
 /// One turn: the next token goes last. Some place where it ends, or none where it is End.
 fn turn(
     alloc: Global,
@@ -325,31 +436,18 @@ fn turn(
     requires within { at ≤ length source.now }
     ensures { Turns source.now (before_of seen.old) at tokens.old.items result (before_of seen.new) tokens.new.items }
 {
+    if tokens.reserve(1).is_err() {
+        return Err(LexFault::NoMemory);
+    }
     let place = place_of(source, at);
     let spaced = is_spaced(source, at, place);
     if place == source.len() {
         return end(source, seen, at, spaced, tokens);
     }
-    let (kind, len) = match kind_at(alloc, source, seen, at, place, spaced) {
-        Ok(found) => found,
-        Err(fault) => return Err(fault),
-    };
-    let first = place as u32;
-    let past = place + 1 + len;
-    let look = kind.look();
-    if nest(&mut seen.nesting, first, look).is_err() {
-        return Err(LexFault::NoMemory);
+    if is_sign_at(source, seen, place, spaced) {
+        return sign_turn(source, seen, at, place, spaced, tokens);
     }
-    seen.last = look;
-    let span = Span {
-        first,
-        past: past as u32,
-    };
-    let token = Token { kind, span, spaced };
-    if tokens.push(token).is_err() {
-        return Err(LexFault::NoMemory);
-    }
-    Ok(Some(past))
+    content_turn(alloc, source, seen, at, place, spaced, tokens)
 }
 
 /// The tokens of a text, or its fault.

@@ -1,8 +1,8 @@
 //! Texts and their parts.
-ghost use Rattle.std.specs.Prelude.{◌≡◌, false, IfErr};
+ghost use Rattle.std.specs.Prelude.{◌≡◌, ◌≤◌, length, false, IfErr};
 ghost use Rattle.std.specs.Str.{IsUtf8};
 ghost use Rattle.cr_syntax.specs.Texts as spec;
-ghost use Rattle.cr_lex.specs.Texts.{scan};
+ghost use Rattle.cr_lex.specs.Texts.{ends_plain as plain_ends, ending_length, ending_of, plain_length, scan};
 ghost use Rattle.cr_lex.specs.Parts.{Scans, ReadsPart, IsWithin};
 
 use crate::bytes::begins_brace;
@@ -60,7 +60,26 @@ fn escape(b: u8) -> Option<u8>
     }
 }
 
-/// The part whose bytes begin here.
+fn ends_plain(b: u8) -> bool
+    ensures { result ≡ plain_ends b }
+{
+    b == b'"' || (b == b'\\' || b == b'#')
+}
+
+/// How many bytes at the front stand for themselves.
+fn plain_len(bytes: &[u8]) -> usize
+    ensures value { result ≡ plain_length bytes.now }
+    ensures within { result ≤ length bytes.now }
+{
+    for (i, b) in bytes.iter().enumerate() {
+        if ends_plain(*b) {
+            return i;
+        }
+    }
+    bytes.len()
+}
+
+/// The part whose bytes begin here, byte by byte.
 fn read_body(alloc: Global, bytes: &[u8]) -> Result<Body, PartFault>
     ensures scanned { Scans result (scan false bytes.now) }
     ensures within { IfErr result (λ f. IsWithin f bytes.now) }
@@ -101,6 +120,40 @@ fn read_body(alloc: Global, bytes: &[u8]) -> Result<Body, PartFault>
     })
 }
 
+/// Where a part ends here: whether by `#{`.
+fn ending(bytes: &[u8]) -> Option<bool>
+    ensures { result ≡ ending_of bytes.now }
+{
+    match bytes {
+        [b'"', ..] => Some(false),
+        [b'#', b'{', ..] => Some(true),
+        _ => None,
+    }
+}
+
+fn ending_len(opens: bool) -> usize
+    ensures { result ≡ ending_length opens }
+{
+    if opens { 2 } else { 1 }
+}
+
+/// The part whose bytes begin here. One whose bytes all stand for themselves is copied whole.
+fn body_at(alloc: Global, bytes: &[u8]) -> Result<Body, PartFault>
+    ensures scanned { Scans result (scan false bytes.now) }
+    ensures within { IfErr result (λ f. IsWithin f bytes.now) }
+{
+    let len = plain_len(bytes);
+    let Some(opens) = ending(&bytes[len..]) else {
+        return read_body(alloc, bytes);
+    };
+    let content = Vec::from_slice(alloc, &bytes[..len])?;
+    Ok(Body {
+        content,
+        opens,
+        len: len + ending_len(opens),
+    })
+}
+
 fn part_kind(quoted: bool, opens: bool, text: TokenText) -> TokenKind
     ensures { result ≡ spec.part_kind quoted (record { bytes = text; opens = opens }) }
 {
@@ -117,7 +170,7 @@ pub fn part(alloc: Global, quoted: bool, bytes: &[u8]) -> Result<(TokenKind, usi
     requires { IsUtf8 bytes.now }
     ensures { ReadsPart quoted bytes.now result }
 {
-    match read_body(alloc, bytes) {
+    match body_at(alloc, bytes) {
         Ok(
             Body {
                 content,
