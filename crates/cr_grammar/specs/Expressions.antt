@@ -11,7 +11,7 @@ use Rattle.cr_grammar.specs.declared.tree.Tree.TheVariants as tree
 use Rattle.cr_grammar.specs.declared.within.Within.{Within}
 use Rattle.cr_grammar.specs.Forms.{Form, nothing, ◌>>=◌, ◌>>◌, ◌<|>◌, where_true, passing, maybe, many, some, or_none, repeated, one, word, Word, holding, ident, constant, instance_variable, exactly, tight, with_last, seps, listed, parenthesized, stmts}
 use Rattle.cr_grammar.specs.Operators as o
-use Rattle.cr_grammar.specs.Wanted.{Wanted, Written, Postfix, Unary, Or, Simple, Stmt, in_loop, in_block, in_object}
+use Rattle.cr_grammar.specs.Wanted.{Wanted, Written, When, Unary, Or, Simple, Stmt, in_loop, in_block, in_object}
 
 -- ---- types
 
@@ -313,52 +313,13 @@ module _ (S : Wanted → Form Tree) where
       word l.KeywordEnd
       nothing (tree.Case at value clauses)
 
-    -- Ident "="
-    abbrev pub received_into : Form Tree
-    received_into = do
-      name ← ident
-      word l.Equal
-      nothing (tree.Call name.at None name.text [] None)
-
-    -- postfix "." ( "receive" | "receive?" )
-    abbrev pub receive : Form Tree
-    receive = do
-      channel ← S (Postfix within free)
-      word l.Dot
-      name ← ident
-      (λ w x. ((name.text ≡ o.receive_name) ⊎ (name.text ≡ o.receive_question_name))
-          × nothing (tree.Call name.at (Some channel) name.text [] None) w x)
-
-    -- postfix "." "send" tight "(" or ")"
-    abbrev pub send : Form Tree
-    send = do
-      channel ← S (Postfix within free)
-      word l.Dot
-      at ← exactly (k.Ident o.send_name)
-      value ← tight (parenthesized (S (Or within true)))
-      nothing (tree.Call at (Some channel) o.send_name (value ∷ []) None)
-
-    -- when = "when" [ Ident "=" ] postfix "." ( "receive" | "receive?" ) then stmts
-    --      | "when" postfix "." "send" tight "(" or ")" then stmts
-    abbrev pub when_of : Form (Option Tree) → Form Tree → Form Tree
-    when_of into R = do
-      word l.When
-      target ← into
-      operation ← R
-      then
-      body ← body within
-      nothing (tree.When target operation body)
-
-    abbrev pub when : Form Tree
-    when = when_of (maybe received_into) receive <|> when_of (nothing None) send
-
     -- select = "select" sep { sep } when { when } [ "else" stmts ] "end"
     abbrev pub select : Form Tree
     select = do
       at ← word l.Select
       word l.Newline
       seps
-      clauses ← some when
+      clauses ← some (S (When within free))
       otherwise ← otherwise within
       word l.KeywordEnd
       nothing (tree.Select at clauses otherwise)
@@ -442,6 +403,47 @@ module _ (S : Wanted → Form Tree) where
     -- postfix = primary { link }
     abbrev pub postfix : Form Tree
     postfix = primary >>= repeated link
+
+    -- ---- the clauses of `select`
+
+    -- Ident "="
+    abbrev pub received_into : Form Tree
+    received_into = do
+      name ← ident
+      word l.Equal
+      nothing (tree.Call name.at None name.text [] None)
+
+    -- postfix "." ( "receive" | "receive?" )
+    abbrev pub receive : Form Tree
+    receive = do
+      channel ← postfix
+      word l.Dot
+      name ← ident
+      (λ w x. ((name.text ≡ o.receive_name) ⊎ (name.text ≡ o.receive_question_name))
+          × nothing (tree.Call name.at (Some channel) name.text [] None) w x)
+
+    -- postfix "." "send" tight "(" or ")"
+    abbrev pub send : Form Tree
+    send = do
+      channel ← postfix
+      word l.Dot
+      at ← exactly (k.Ident o.send_name)
+      value ← tight (parenthesized (S (Or within true)))
+      nothing (tree.Call at (Some channel) o.send_name (value ∷ []) None)
+
+    -- when = "when" [ Ident "=" ] postfix "." ( "receive" | "receive?" ) then stmts
+    --      | "when" postfix "." "send" tight "(" or ")" then stmts
+    abbrev pub when_of : Form (Option Tree) → Form Tree → Form Tree
+    when_of into R = do
+      word l.When
+      target ← into
+      operation ← R
+      then
+      body ← body within
+      nothing (tree.When target operation body)
+
+    abbrev pub when : Form Tree
+    when = when_of (maybe received_into) receive <|> when_of (nothing None) send
 
     -- ---- operators
 

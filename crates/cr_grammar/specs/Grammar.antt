@@ -10,8 +10,8 @@ use Rattle.cr_grammar.specs.declared.tree.Tree.TheVariants as tree
 use Rattle.cr_grammar.specs.declared.within.Within.{Within}
 use Rattle.cr_grammar.specs.Forms.{Form, nothing, ◌>>=◌, ◌>>◌, ◌<|>◌, where_true, passing, maybe, or_none, from_first, one, word, ident, constant, instance_variable, tight, listed, parenthesized, stmts}
 use Rattle.cr_grammar.specs.Operators as o
-use Rattle.cr_grammar.specs.Wanted.{Wanted, Written, Postfix, Unary, Or, Simple, Stmt, Stmts, Program, in_method, top}
-use Rattle.cr_grammar.specs.Expressions.{written, body, doblock, field, indices, postfix, unary, or}
+use Rattle.cr_grammar.specs.Wanted.{Wanted, Written, When, Unary, Or, Simple, Stmt, Stmts, Program, in_method, top}
+use Rattle.cr_grammar.specs.Expressions.{written, body, doblock, field, indices, postfix, when, unary, or}
 
 -- ---- statements
 
@@ -172,7 +172,7 @@ module _ (S : Wanted → Form Tree) where
     name ← constant
     nothing name.text
 
-  -- class = "class" Const [ tight "(" Const { "," Const} ")" ] [ "<" Const ] sep stmts(member) "end"
+  -- class = "class" Const [ tight "(" Const { "," Const } ")" ] [ "<" Const ] sep stmts(member) "end"
   abbrev pub class : Form Tree
   class = do
     at ← word l.Class
@@ -209,7 +209,7 @@ module _ (S : Wanted → Form Tree) where
 
 abbrev pub rule : (Wanted → Form Tree) → Wanted → Form Tree
 rule S (Written with_arguments) = written S with_arguments
-rule S (Postfix within free) = postfix S within free
+rule S (When within free) = when S within free
 rule S (Unary within free) = unary S within free
 rule S (Or within free) = or S within free
 rule S (Simple within) = simple S within

@@ -9,7 +9,7 @@ pub data Wanted : Type 0 where
   -- a type; the flag tells whether type arguments may stand in it
   Written : Bool → Wanted
   -- Here the flag tells whether a `do` is free; in the arguments of a command it belongs to the command.
-  Postfix : Within → Bool → Wanted
+  When : Within → Bool → Wanted
   Unary : Within → Bool → Wanted
   Or : Within → Bool → Wanted
   Simple : Within → Wanted

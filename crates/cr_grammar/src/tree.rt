@@ -3,8 +3,8 @@ use cr_syntax::TokenText;
 use sqlite_items::{Boxed, Items};
 
 /// A construct of the source. `at` is the byte place that a refusal names: of a call, an operator or `new` its name's, of
-/// any other construct its first token's. Parentheses, the modifier form of `if`, `then`, braces against `do` and an empty
-/// argument list leave no trace.
+/// an index its `[`'s, of `nil?`, `is_a?` and `spawn` behind a receiver the word's, of any other construct its first
+/// token's. Parentheses, the modifier form of `if`, `then`, braces against `do` and an empty argument list leave no trace.
 #[derive(Drop)]
 pub enum Tree {
     // Lists and parts, which are no nodes.
