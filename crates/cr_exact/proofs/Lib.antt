@@ -1,0 +1,11 @@
+pub mod Sequence
+pub mod Tokens
+pub mod Loops
+pub mod Nodes
+pub mod Places
+pub mod Limits
+pub mod LimitSteps
+pub mod LimitChoices
+pub mod LimitLoops
+pub mod LimitParts
+pub mod LimitMeans

@@ -1,0 +1,242 @@
+-- Steps that read no token: they count nodes and nesting, or look back.
+use Rattle.std.proofs.Common.{◌≡◌, ℕ, ◌+◌, max, Bool, true, false, cond, List, [], ◌∷◌, ◌++◌, inl, inr, refl, sym, ap, subst, ◌∙◌}
+use Rattle.cr_syntax.specs.declared.look.TokenLook.{TokenLook}
+use Rattle.cr_syntax.specs.declared.token.Token.{Token}
+use Rattle.cr_syntax.specs.Look.{look_of}
+use Rattle.cr_grammar.specs.Forms.{Form, last_look, with_last}
+use Rattle.cr_exact.specs.declared.fault.ParseFault.{ParseFault}
+use Rattle.cr_exact.specs.declared.fault.ParseFault.TheVariants.{Unexpected, TooDeep, TooManyNodes, NoMemory}
+use Rattle.cr_exact.specs.Reader.{State, Outcome, Found, Failed, Reader, Test, and_then, ◌>>=◌, ◌>>◌, pure, node_above, grow, wrap, around, deeper, shallower, above_part, unchanged, part, beside, last}
+use Rattle.cr_exact.specs.Exact.{at, head, last_from, Stops, Effort, Enough, Ends, Finds, Refuses, Exact}
+use Rattle.cr_exact.proofs.Sequence.{bind_found, bind_refused, parts_found, ends_less}
+
+-- A step that reads no token, refuses none, and knows no limit where there is none.
+pub record IsSilent (q : Reader (Unit {0})) : Type 0 where
+  pub keeps : (s s' : State) (rest : List Token) → q s ≡ Found tt s' → q (at s rest) ≡ Found tt (at s' rest)
+  pub stays : (s s' : State) → q s ≡ Found tt s' → (s'.rest ≡ s.rest) × (s'.before ≡ s.before) × (s'.limited ≡ s.limited)
+  pub accepts : (s s' : State) (n : ℕ) → q s ≡ Failed (Unexpected n) s' → ⊥
+  pub lets : (s s' : State) (e : ParseFault) → s.limited ≡ false → q s ≡ Failed e s' → ⊥
+
+silent_ends : {A : Type 0} (o : Outcome (Unit {0})) (p : Reader A) (enough : Type 0) (x : A) (before : TokenLook) (rest : List Token) (limited : Bool)
+    → ((m : State) → o ≡ Found tt m → Ends enough (p m) x before rest limited)
+    → ((m : State) (n : ℕ) → o ≡ Failed (Unexpected n) m → ⊥) → (enough → (m : State) (e : ParseFault) → o ≡ Failed e m → ⊥)
+    → Ends enough (and_then o (λ _. p)) x before rest limited
+silent_ends (Found u m) p enough x before rest limited go bad none = go m refl
+silent_ends (Failed (Unexpected n) m) p enough x before rest limited go bad none = absurd (bad m n refl)
+silent_ends (Failed (TooDeep n) m) p enough x before rest limited go bad none = (tt, λ is. none is m (TooDeep n) refl)
+silent_ends (Failed (TooManyNodes n) m) p enough x before rest limited go bad none = (tt, λ is. none is m (TooManyNodes n) refl)
+silent_ends (Failed NoMemory m) p enough x before rest limited go bad none = (tt, λ is. none is m NoMemory refl)
+
+enough_same : (effort : Effort) (s m : State) → m.rest ≡ s.rest → m.limited ≡ s.limited → Enough effort s → Enough effort m
+enough_same effort s m e same h = (h.0, same ∙ h.1, rw e h.2)
+
+module _ {effort : Effort} {A : Type 0} {Pre : List Token → Type 0} {R C : Form A} {g : Test} (q : Reader (Unit {0})) (silent : IsSilent q) (p : Reader A) (ep : Exact effort Pre R C g p) where
+  silent-found : (s : State) (x : A) (s' : State) → Pre s.rest → (q >> p) s ≡ Found x s' → Finds R (q >> p) s x s'
+  silent-found s x s' pre e =
+      let b = bind_found (q s) (λ _. p) x s' e in
+      let K = silent.stays s b.1 b.2 in
+      let F = ep.found b.1 x s' (rw K.0 pre) b.3 in
+      record {
+        front = F.front;
+        parts = sym K.0 ∙ F.parts;
+        ends = F.ends ∙ ap (λ v. last_from v F.front) K.1;
+        spelled = F.spelled;
+        again = λ rest same. ap (λ (o : Outcome (Unit {0})). and_then o (λ _. p)) (silent.keeps s b.1 (F.front ++ rest) b.2) ∙ F.again rest same;
+      }
+
+  silent-refused : (s : State) (n : ℕ) (s' : State) → Pre s.rest → (q >> p) s ≡ Failed (Unexpected n) s' → Refuses R (q >> p) s n s'
+  silent-refused s n s' pre e =
+      elim (bind_refused (q s) (λ _. p) (Unexpected n) s' e) [
+        | inl b ↦ absurd (silent.accepts s s' n b)
+        | inr b ↦
+            let K = silent.stays s b.1 b.2 in
+            let F = ep.refused b.1 n s' (rw K.0 pre) b.3 in
+            record {
+              front = F.front;
+              parts = sym K.0 ∙ F.parts;
+              place = F.place;
+              more = F.more;
+              value = F.value;
+              begins = F.begins;
+              again = λ rest same. ap (λ (o : Outcome (Unit {0})). and_then o (λ _. p)) (silent.keeps s b.1 (F.front ++ rest) b.2) ∙ F.again rest same;
+            }
+      ]
+
+  silent-complete : (w : List Token) (x : A) (s : State) (rest : List Token) → Pre s.rest → C w x → s.rest ≡ w ++ rest → Stops g rest
+      → Ends (Enough effort s) ((q >> p) s) x (last_from s.before w) rest s.limited
+  silent-complete w x s rest pre c e stop =
+      silent_ends (q s) p (Enough effort s) x (last_from s.before w) rest s.limited
+      (λ m is.
+      let K = silent.stays s m is in
+      let inner = ep.complete w x m rest (rw K.0 pre) c (K.0 ∙ e) stop in
+      let less = ends_less (Enough effort m) (Enough effort s) (p m) x (last_from m.before w) rest m.limited (enough_same effort s m K.0 K.2) inner in
+      subst (λ v. Ends (Enough effort s) (p m) x (last_from v w) rest s.limited) K.1
+      (subst (λ v. Ends (Enough effort s) (p m) x (last_from m.before w) rest v) K.2 less))
+      (λ m n is. silent.accepts s m n is)
+      (λ en m d is. silent.lets s m d en.1 is)
+
+  pub exact_silent : Exact effort Pre R C g (q >> p)
+  exact_silent = record { found = silent-found; refused = silent-refused; complete = silent-complete }
+
+-- ---- nodes
+
+passed : (b c : Bool) (s m s' : State) (n o : ℕ) → let outcome : Outcome (Unit {0}) = cond b (Failed (TooDeep n) s) (cond c (Failed (TooManyNodes o) s) (Found tt m)) in outcome ≡ Found tt s'
+    → (b ≡ false) × (c ≡ false) × (m ≡ s')
+passed true c s m s' n o e = absurd cc
+passed false true s m s' n o e = absurd cc
+passed false false s m s' n o e = (refl, refl, cc)
+
+not_unexpected : (b c : Bool) (s m s' : State) (n o u : ℕ) → let outcome : Outcome (Unit {0}) = cond b (Failed (TooDeep n) s) (cond c (Failed (TooManyNodes o) s) (Found tt m)) in outcome ≡ Failed (Unexpected u) s' → ⊥
+not_unexpected true c s m s' n o u e = cc
+not_unexpected false true s m s' n o u e = cc
+not_unexpected false false s m s' n o u e = cc
+
+lets_through : (place height : ℕ) (s s' : State) (e : ParseFault) → s.limited ≡ false → node_above place height s ≡ Failed e s' → ⊥
+lets_through place height s s' e free is =
+    let open_ : node_above place height s ≡ Found tt (record s { nodes = s.nodes + 1; height = height + 1 }) = rw free refl in
+    let both : Found tt (record s { nodes = s.nodes + 1; height = height + 1 }) ≡ Failed e s' = sym open_ ∙ is in
+    cc
+
+pub silent_above : (place height : ℕ) → IsSilent (node_above place height)
+silent_above place height = record {
+  keeps = λ s s' rest e. let c = passed _ _ s _ s' _ _ e in rw (c.0, c.1) (ap (λ (m : State). Found tt (at m rest)) c.2);
+  stays = λ s s' e. let c = passed _ _ s _ s' _ _ e in (ap (λ (m : State). m.rest) (sym c.2), ap (λ (m : State). m.before) (sym c.2), ap (λ (m : State). m.limited) (sym c.2));
+  accepts = λ s s' n e. not_unexpected _ _ s _ s' _ _ n e;
+  lets = lets_through place height;
+}
+
+pub silent_grow : (place : ℕ) → IsSilent (grow place)
+unfolding grow
+silent_grow place = silent_above place 0
+
+pub silent_wrap : (place : ℕ) → IsSilent (wrap place)
+unfolding wrap
+silent_wrap place = record {
+  keeps = λ s s' rest e. (silent_above place s.height).keeps s s' rest e;
+  stays = λ s s' e. (silent_above place s.height).stays s s' e;
+  accepts = λ s s' n e. (silent_above place s.height).accepts s s' n e;
+  lets = λ s s' e free is. (silent_above place s.height).lets s s' e free is;
+}
+
+-- ---- at another depth
+
+module _ {effort : Effort} {A : Type 0} {Pre : List Token → Type 0} {R C : Form A} {g : Test} (into back : ℕ → ℕ) (above : ℕ → ℕ → ℕ) (p : Reader A) (ep : Exact effort Pre R C g p) where
+  abbrev now : Reader A
+  now = around into back above p
+
+  abbrev entered : State → State
+  entered s = record s { depth = into s.depth }
+
+  abbrev left : ℕ → State → State
+  left height m = record m { depth = back m.depth; height = above height m.height }
+
+  around-found : (s : State) (x : A) (s' : State) → Pre s.rest → now s ≡ Found x s' → Finds R now s x s'
+  around-found s x s' pre e =
+      let b = bind_found (p (entered s)) (λ y m. Found y (left s.height m)) x s' e in
+      let F = ep.found (entered s) b.0 b.1 pre b.2 in
+      let r = parts_found b.0 x (left s.height b.1) s' b.3 in
+      let rests : b.1.rest ≡ s'.rest = ap (λ (m : State). m.rest) r.1 in
+      record {
+        front = F.front;
+        parts = F.parts ∙ ap (λ (t : List Token). F.front ++ t) rests;
+        ends = sym (ap (λ (m : State). m.before) r.1) ∙ F.ends;
+        spelled = subst (λ v. R F.front v) r.0 F.spelled;
+        again = λ rest same.
+            ap (λ (o : Outcome A). and_then o (λ y m. Found y (left s.height m))) (F.again rest (same ∙ ap head (sym rests)))
+            ∙ ap (λ (m : State). Found b.0 (at m rest)) r.1 ∙ ap (λ v. Found v (at s' rest)) r.0;
+      }
+
+  around-refused : (s : State) (n : ℕ) (s' : State) → Pre s.rest → now s ≡ Failed (Unexpected n) s' → Refuses R now s n s'
+  around-refused s n s' pre e =
+      elim (bind_refused (p (entered s)) (λ y m. Found y (left s.height m)) (Unexpected n) s' e) [
+        | inl b ↦
+            let F = ep.refused (entered s) n s' pre b in
+            record {
+              front = F.front;
+              parts = F.parts;
+              place = F.place;
+              more = F.more;
+              value = F.value;
+              begins = F.begins;
+              again = λ rest same. ap (λ (o : Outcome A). and_then o (λ y m. Found y (left s.height m))) (F.again rest same);
+            }
+        | inr b ↦ absurd cc
+      ]
+
+  around_ends : (o : Outcome A) (height : ℕ) (enough : Type 0) (x : A) (before : TokenLook) (rest : List Token) (limited : Bool)
+      → Ends enough o x before rest limited → Ends enough (and_then o (λ y m. Found y (left height m))) x before rest limited
+  around_ends (Found y m) height enough x before rest limited e = e
+  around_ends (Failed d m) height enough x before rest limited e = e
+
+  pub exact_around : Exact effort Pre R C g now
+  exact_around = record {
+    found = around-found;
+    refused = around-refused;
+    complete = λ w x s rest pre c e stop. around_ends (p (entered s)) s.height _ x _ rest _ (ep.complete w x (entered s) rest pre c e stop);
+  }
+
+pub exact_part : {effort : Effort} {A : Type 0} {Pre : List Token → Type 0} {R C : Form A} {g : Test} (p : Reader A) → Exact effort Pre R C g p → Exact effort Pre R C g (part p)
+unfolding part
+exact_part p ep = exact_around deeper shallower above_part p ep
+
+pub exact_beside : {effort : Effort} {A : Type 0} {Pre : List Token → Type 0} {R C : Form A} {g : Test} (p : Reader A) → Exact effort Pre R C g p → Exact effort Pre R C g (beside p)
+unfolding beside
+exact_beside p ep = exact_around unchanged unchanged max p ep
+
+-- ---- the look of the last token
+
+last_is : (before : TokenLook) (w : List Token) → (w ≡ [] → ⊥) → last_from before w ≡ last_look w
+last_is before [] some = absurd (some refl)
+last_is before (t ∷ []) some = refl
+last_is before (t ∷ u ∷ ts) some = last_is (look_of t.kind) (u ∷ ts) (λ e. cc)
+
+module _ {effort : Effort} {A : Type 0} {Pre : List Token → Type 0} {R C : Form A} {g : Test} (p : Reader A) (ep : Exact effort Pre R C g p)
+    (real : (w : List Token) (x : A) → R w x → w ≡ [] → ⊥) (sure : (w : List Token) (x : A) → C w x → w ≡ [] → ⊥) where
+  abbrev both : Reader (A × TokenLook)
+  both = p >>= λ x. last >>= λ look. pure (x, look)
+
+  last-found : (s : State) (x : A × TokenLook) (s' : State) → Pre s.rest → both s ≡ Found x s' → Finds (with_last R) both s x s'
+  last-found s x s' pre e =
+      let b = bind_found (p s) (λ y. last >>= λ look. pure (y, look)) x s' e in
+      let F = ep.found s b.0 b.1 pre b.2 in
+      let r = parts_found (b.0, b.1.before) x b.1 s' b.3 in
+      let rests : b.1.rest ≡ s'.rest = ap (λ (m : State). m.rest) r.1 in
+      record {
+        front = F.front;
+        parts = F.parts ∙ ap (λ (t : List Token). F.front ++ t) rests;
+        ends = sym (ap (λ (m : State). m.before) r.1) ∙ F.ends;
+        spelled = subst (λ v. with_last R F.front v) r.0 (F.spelled, F.ends ∙ last_is s.before F.front (real F.front b.0 F.spelled));
+        again = λ rest same.
+            ap (λ (o : Outcome A). and_then o (λ y. last >>= λ look. pure (y, look))) (F.again rest (same ∙ ap head (sym rests)))
+            ∙ ap (λ (m : State). Found (b.0, b.1.before) (at m rest)) r.1 ∙ ap (λ v. Found v (at s' rest)) r.0;
+      }
+
+  last-refused : (s : State) (n : ℕ) (s' : State) → Pre s.rest → both s ≡ Failed (Unexpected n) s' → Refuses (with_last R) both s n s'
+  last-refused s n s' pre e =
+      elim (bind_refused (p s) (λ y. last >>= λ look. pure (y, look)) (Unexpected n) s' e) [
+        | inl b ↦
+            let F = ep.refused s n s' pre b in
+            record {
+              front = F.front;
+              parts = F.parts;
+              place = F.place;
+              more = F.more;
+              value = (F.value, last_look (F.front ++ F.more));
+              begins = (F.begins, refl);
+              again = λ rest same. ap (λ (o : Outcome A). and_then o (λ y. last >>= λ look. pure (y, look))) (F.again rest same);
+            }
+        | inr b ↦ absurd cc
+      ]
+
+  last_ends : (o : Outcome A) (enough : Type 0) (x : A × TokenLook) (before : TokenLook) (rest : List Token) (limited : Bool) → before ≡ x.1
+      → Ends enough o x.0 before rest limited → Ends enough (and_then o (λ y. last >>= λ look. pure (y, look))) x before rest limited
+  last_ends (Found y m) enough x before rest limited is e = (λ i. (e.0 i, (e.1 ∙ is) i), e.1, e.2, e.3)
+  last_ends (Failed d m) enough x before rest limited is e = e
+
+  last-complete : (w : List Token) (x : A × TokenLook) (s : State) (rest : List Token) → Pre s.rest → with_last C w x → s.rest ≡ w ++ rest → Stops g rest
+      → Ends (Enough effort s) (both s) x (last_from s.before w) rest s.limited
+  last-complete w x s rest pre c e stop =
+      last_ends (p s) (Enough effort s) x (last_from s.before w) rest s.limited (last_is s.before w (sure w x.0 c.0) ∙ sym c.1) (ep.complete w x.0 s rest pre c.0 e stop)
+
+  pub exact_last : Exact effort Pre (with_last R) (with_last C) g both
+  exact_last = record { found = last-found; refused = last-refused; complete = last-complete }

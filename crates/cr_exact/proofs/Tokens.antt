@@ -1,0 +1,360 @@
+-- Readers of one token, and readers chosen by the next one.
+use Rattle.std.proofs.Common.{◌≡◌, ℕ, Bool, true, false, cond, List, [], ◌∷◌, ◌++◌, Option, Some, None, ◌⊎◌, inl, inr, refl, sym, ap, subst, ◌∙◌, rules}
+use denote.Enum.Bare.{same_true, true_same}
+use Rattle.cr_syntax.specs.contracts.look.TokenLook.{the_type}
+use Rattle.cr_syntax.specs.declared.look.TokenLook.{TokenLook}
+use Rattle.cr_syntax.specs.declared.token.Token.{Token}
+use Rattle.cr_syntax.specs.declared.token.TokenKind.{TokenKind}
+use Rattle.cr_syntax.specs.Look.{look_of}
+use Rattle.cr_grammar.specs.Forms.{Form, ◌<|>◌, one, word, Word, holding, where_true}
+use Rattle.cr_exact.specs.declared.fault.ParseFault.TheVariants.{Unexpected}
+use Rattle.cr_exact.specs.Reader.{State, Outcome, Found, Failed, Reader, Test, passes, place_at, look_at, next, tail, read_by, same_look, refuse, taken, take, place_if, word_read, worded, expect, holder, choose, only, by_look, allow}
+use Rattle.cr_exact.specs.Exact.{at, head, last_from, Stops, Effort, Enough, Ends, Finds, Refuses, Exact, Any}
+use Rattle.cr_exact.proofs.Sequence.{head-append, head-passes, head-place, head-look, parts_found}
+
+-- ---- refusals
+
+pub not_found : {A : Type 0} (s : State) (x : A) (s' : State) → let outcome : Outcome A = refuse s in outcome ≡ Found x s' → ⊥
+not_found s x s' e = cc
+
+pub refusal_is : {A : Type 0} (s s' : State) (n : ℕ) → let outcome : Outcome A = refuse s in outcome ≡ Failed (Unexpected n) s' → (place_at s.rest ≡ n) × (s ≡ s')
+refusal_is s s' n e = (cc, cc)
+
+pub refusal_at : {A : Type 0} (s s' : State) (n : ℕ) (rest : List Token) → place_at rest ≡ n → s ≡ s' → let outcome : Outcome A = refuse (at s rest) in outcome ≡ Failed (Unexpected n) (at s' rest)
+refusal_at s s' n rest e same = rw (e, same) refl
+
+-- What refuses at once, where something is spelled at all, refuses rightly.
+refuses_here : {A : Type 0} (R : Form A) (p : Reader A) (s s' : State) (n : ℕ) (w : List Token) (x : A) → R w x → (place_at s.rest ≡ n) × (s ≡ s')
+    → ((rest : List Token) → head rest ≡ head s.rest → p (at s rest) ≡ refuse (at s rest)) → Refuses R p s n s'
+refuses_here R p s s' n w x some is again = record {
+  front = [];
+  parts = ap (λ (m : State). m.rest) is.1;
+  place = sym is.0 ∙ ap (λ (m : State). place_at m.rest) is.1;
+  more = w;
+  value = x;
+  begins = some;
+  again = λ rest same.
+      let same_as : head rest ≡ head s.rest = same ∙ ap (λ (m : State). head m.rest) (sym is.1) in
+      again rest same_as ∙ refusal_at s s' n rest (head-place rest s.rest same_as ∙ is.0) is.1;
+}
+
+-- ---- one token
+
+head-read : {A : Type 0} (f : Token → Option A) (a b : List Token) → head a ≡ head b → read_by f a ≡ read_by f b
+head-read f [] [] h = refl
+head-read f [] (t ∷ b) h = absurd cc
+head-read f (t ∷ a) [] h = absurd cc
+head-read f (t ∷ a) (u ∷ b) h = cc
+
+module _ (effort : Effort) {A : Type 0} (P : Token → A → Type 0) (g : Test) (f : Token → Option A)
+    (out : (t : Token) (x : A) → f t ≡ Some x → P t x) (back : (t : Token) (x : A) → P t x → f t ≡ Some x)
+    (t0 : Token) (x0 : A) (some : P t0 x0) where
+  take-found : (ts : List Token) (o : Option A) (s : State) (x : A) (s' : State) → read_by f ts ≡ o → taken o (at s ts) ≡ Found x s' → Finds (one P) (take f) (at s ts) x s'
+  unfolding next
+  take-found ts None s x s' is e = absurd (not_found (at s ts) x s' e)
+  take-found [] (Some y) s x s' is e = absurd cc
+  take-found (t ∷ ts) (Some y) s x s' is e =
+      let r = parts_found y x (next (at s (t ∷ ts))) s' e in
+      record {
+        front = t ∷ [];
+        parts = ap (λ (m : State). t ∷ m.rest) r.1;
+        ends = sym (ap (λ (m : State). m.before) r.1);
+        spelled = (t, refl, out t x (is ∙ ap Some r.0));
+        again = λ rest same. ap (λ v. taken v (at s (t ∷ rest))) is ∙ ap (λ (m : State). Found y (at m rest)) r.1 ∙ ap (λ v. Found v (at s' rest)) r.0;
+      }
+
+  take-refused : (s : State) (o : Option A) (n : ℕ) (s' : State) → read_by f s.rest ≡ o → taken o s ≡ Failed (Unexpected n) s' → Refuses (one P) (take f) s n s'
+  take-refused s (Some y) n s' is e = absurd cc
+  take-refused s None n s' is e =
+      refuses_here (one P) (take f) s s' n (t0 ∷ []) x0 (t0, refl, some) (refusal_is s s' n e)
+      (λ rest same. ap (λ v. taken v (at s rest)) (head-read f rest s.rest same ∙ is))
+
+  take-complete : (w : List Token) (x : A) (s : State) (rest : List Token) → one P w x → s.rest ≡ w ++ rest → Ends (Enough effort s) (take f s) x (last_from s.before w) rest s.limited
+  unfolding next
+  take-complete w x s rest c e =
+      let whole : s.rest ≡ c.0 ∷ rest = e ∙ ap (λ (r : List Token). r ++ rest) c.1 in
+      let is : read_by f s.rest ≡ Some x = ap (read_by f) whole ∙ back c.0 x c.2 in
+      subst (λ o. Ends (Enough effort s) (taken o s) x (last_from s.before w) rest s.limited) (sym is)
+      (refl, ap look_at whole ∙ ap (λ v. last_from s.before v) (sym c.1), ap tail whole, refl)
+
+  pub exact_take : Exact effort Any (one P) (one P) g (take f)
+  exact_take = record {
+    found = λ s x s' pre e. take-found s.rest (read_by f s.rest) s x s' refl e;
+    refused = λ s n s' pre e. take-refused s (read_by f s.rest) n s' refl e;
+    complete = λ w x s rest pre c e stop. take-complete w x s rest c e;
+  }
+
+-- ---- a word
+
+place_out : (b : Bool) (t : Token) (at : ℕ) → place_if b t ≡ Some at → (b ≡ true) × (at ≡ t.span.first)
+place_out true t at e = (refl, cc)
+place_out false t at e = absurd cc
+
+pub same_look_is : (a b : TokenLook) → same_look a b ≡ true → a ≡ b
+unfolding same_look
+same_look_is a b e = same_true the_type (search rules) a b e
+
+pub look_is_same : (a b : TokenLook) → a ≡ b → same_look a b ≡ true
+unfolding same_look
+look_is_same a b e = true_same the_type a b e
+
+abbrev pub a_token : TokenKind → Token
+a_token kind = record { kind = kind; span = record { first = 0; past = 0 }; spaced = false }
+
+-- A token of this kind shows that there is one of the look.
+pub exact_word : (effort : Effort) (kind : TokenKind) (g : Test) → Exact effort Any (word (look_of kind)) (word (look_of kind)) g (expect (look_of kind))
+exact_word effort kind g = exact_take effort (λ t at. (look_of t.kind ≡ look_of kind) × (at ≡ t.span.first)) g (word_read (look_of kind))
+    (λ t at e. let r = place_out _ t at e in (same_look_is _ _ r.0, r.1))
+    (λ t at e. ap (λ b. place_if b t) (look_is_same _ _ e.0) ∙ ap Some (sym e.1))
+    (a_token kind) 0 (refl, refl)
+
+-- ---- a token that holds a text
+
+some_one : {A : Type 0} (x y : A) → let some : A → Option A = Some in some x ≡ some y → x ≡ y
+some_one x y e = cc
+
+held_out : (t : Token) (o : Option (List ℕ)) (x : Word) → worded t o ≡ Some x → (o ≡ Some x.text) × (x.at ≡ t.span.first)
+held_out t None x e = absurd cc
+held_out t (Some text) x e =
+    let same : record { at = t.span.first; text = text } ≡ x = some_one _ x e in
+    (ap (λ (v : Word). Some v.text) same, sym (ap (λ (v : Word). v.at) same))
+
+module _ (effort : Effort) (kind : List ℕ → TokenKind) (text_of : TokenKind → Option (List ℕ))
+    (out : (v : TokenKind) (text : List ℕ) → text_of v ≡ Some text → v ≡ kind text) (back : (text : List ℕ) → text_of (kind text) ≡ Some text) (g : Test) where
+  held_back : (t : Token) (x : Word) → (t.kind ≡ kind x.text) × (x.at ≡ t.span.first) → worded t (text_of t.kind) ≡ Some x
+  held_back t x e =
+      ap (worded t) (ap text_of e.0 ∙ back x.text) ∙ ap (λ (n : ℕ). Some (record { at = n; text = x.text })) (sym e.1)
+
+  pub exact_holder : Exact effort Any (holding kind) (holding kind) g (holder text_of)
+  exact_holder = exact_take effort (λ t (x : Word). (t.kind ≡ kind x.text) × (x.at ≡ t.span.first)) g (λ t. worded t (text_of t.kind))
+      (λ t x e. let r = held_out t (text_of t.kind) x e in (out t.kind x.text r.0, r.1))
+      held_back
+      (a_token (kind [])) (record { at = 0; text = [] }) (refl, refl)
+
+-- ---- one way or the other
+
+-- the next token passes the test
+abbrev pub Passing : Test → List Token → Type 0
+Passing test ts = passes test ts ≡ true
+
+abbrev pub Failing : Test → List Token → Type 0
+Failing test ts = passes test ts ≡ false
+
+chosen : {A : Type 0} (b : Bool) (p q : Reader A) (s : State) (r : Outcome A) → cond b p q s ≡ r → ((b ≡ true) × (p s ≡ r)) ⊎ ((b ≡ false) × (q s ≡ r))
+chosen true p q s r e = inl (refl, e)
+chosen false p q s r e = inr (refl, e)
+
+chosen_ends : {A : Type 0} (b : Bool) (p q : Reader A) (s : State) (enough : Type 0) (x : A) (before : TokenLook) (rest : List Token) (limited : Bool)
+    → (b ≡ true → Ends enough (p s) x before rest limited) → (b ≡ false → Ends enough (q s) x before rest limited) → Ends enough (cond b p q s) x before rest limited
+chosen_ends true p q s enough x before rest limited u v = u refl
+chosen_ends false p q s enough x before rest limited u v = v refl
+
+pub clash : {b : Bool} → b ≡ false → b ≡ true → ⊥
+clash f t = cc
+
+module _ (effort : Effort) {A : Type 0} (test : Test) (R C Q D : Form A) (g : Test) (p q : Reader A)
+    (ep : Exact effort (Passing test) R C g p) (eq : Exact effort (Failing test) Q D g q)
+    (heads : (w : List Token) (x : A) (rest : List Token) → C w x → passes test (w ++ rest) ≡ true)
+    (others : (w : List Token) (x : A) (rest : List Token) → D w x → Stops g rest → passes test (w ++ rest) ≡ false) where
+  abbrev now : Reader A
+  now = choose test p q
+
+  kept : (s s' : State) (front rest : List Token) → s.rest ≡ front ++ s'.rest → head rest ≡ head s'.rest → passes test (front ++ rest) ≡ passes test s.rest
+  kept s s' front rest parts same = head-passes test _ _ (head-append front rest s'.rest same) ∙ ap (passes test) (sym parts)
+
+  choose-found : (s : State) (x : A) (s' : State) → now s ≡ Found x s' → Finds (R <|> Q) now s x s'
+  choose-found s x s' e =
+      elim (chosen (passes test s.rest) p q s (Found x s') e) [
+        | inl c ↦
+            let F = ep.found s x s' c.0 c.1 in
+            record {
+              front = F.front;
+              parts = F.parts;
+              ends = F.ends;
+              spelled = inl F.spelled;
+              again = λ rest same. ap (λ b. cond b p q (at s (F.front ++ rest))) (kept s s' F.front rest F.parts same ∙ c.0) ∙ F.again rest same;
+            }
+        | inr c ↦
+            let F = eq.found s x s' c.0 c.1 in
+            record {
+              front = F.front;
+              parts = F.parts;
+              ends = F.ends;
+              spelled = inr F.spelled;
+              again = λ rest same. ap (λ b. cond b p q (at s (F.front ++ rest))) (kept s s' F.front rest F.parts same ∙ c.0) ∙ F.again rest same;
+            }
+      ]
+
+  choose-refused : (s : State) (n : ℕ) (s' : State) → now s ≡ Failed (Unexpected n) s' → Refuses (R <|> Q) now s n s'
+  choose-refused s n s' e =
+      elim (chosen (passes test s.rest) p q s (Failed (Unexpected n) s') e) [
+        | inl c ↦
+            let F = ep.refused s n s' c.0 c.1 in
+            record {
+              front = F.front;
+              parts = F.parts;
+              place = F.place;
+              more = F.more;
+              value = F.value;
+              begins = inl F.begins;
+              again = λ rest same. ap (λ b. cond b p q (at s (F.front ++ rest))) (kept s s' F.front rest F.parts same ∙ c.0) ∙ F.again rest same;
+            }
+        | inr c ↦
+            let F = eq.refused s n s' c.0 c.1 in
+            record {
+              front = F.front;
+              parts = F.parts;
+              place = F.place;
+              more = F.more;
+              value = F.value;
+              begins = inr F.begins;
+              again = λ rest same. ap (λ b. cond b p q (at s (F.front ++ rest))) (kept s s' F.front rest F.parts same ∙ c.0) ∙ F.again rest same;
+            }
+      ]
+
+  choose-complete : (w : List Token) (x : A) (s : State) (rest : List Token) → (C <|> D) w x → s.rest ≡ w ++ rest → Stops g rest
+      → Ends (Enough effort s) (now s) x (last_from s.before w) rest s.limited
+  choose-complete w x s rest (inl c) e stop =
+      let is : passes test s.rest ≡ true = ap (passes test) e ∙ heads w x rest c in
+      chosen_ends (passes test s.rest) p q s _ x _ rest _ (λ t. ep.complete w x s rest is c e stop) (λ f. absurd (clash f is))
+  choose-complete w x s rest (inr d) e stop =
+      let is : passes test s.rest ≡ false = ap (passes test) e ∙ others w x rest d stop in
+      chosen_ends (passes test s.rest) p q s _ x _ rest _ (λ t. absurd (clash is t)) (λ f. eq.complete w x s rest is d e stop)
+
+  pub exact_choose : Exact effort Any (R <|> Q) (C <|> D) g now
+  exact_choose = record {
+    found = λ s x s' pre e. choose-found s x s' e;
+    refused = λ s n s' pre e. choose-refused s n s' e;
+    complete = λ w x s rest pre c e stop. choose-complete w x s rest c e stop;
+  }
+
+-- ---- by the look of the next token
+
+abbrev pub Looks : TokenLook → List Token → Type 0
+Looks look ts = look_at ts ≡ look
+
+-- a first token of this look
+abbrev pub Led : TokenLook → List Token → Type 0
+Led look w = (t : Token) × (ts : List Token) × (w ≡ t ∷ ts) × (look_of t.kind ≡ look)
+
+-- the form that belongs to the look of the first token
+abbrev pub by_first : {A : Type 0} → (TokenLook → Form A) → Form A
+by_first R w x = (look : TokenLook) × Led look w × R look w x
+
+-- The branch is exact, or it refuses and nothing that begins so is spelled.
+abbrev pub Branch : Effort → {A : Type 0} → TokenLook → Form A → Form A → Test → Reader A → Type 0
+Branch effort look R C g p = Exact effort (Looks look) R C g p ⊎ ((p ≡ refuse) × ((w : List Token) (x : _) → Led look w → C w x → ⊥))
+
+module _ (effort : Effort) {A : Type 0} (by : TokenLook → Reader A) (R : Form A) (C : TokenLook → Form A) (g : Test)
+    (branch : (look : TokenLook) → Branch effort look R (C look) g (by look))
+    (w0 : List Token) (x0 : A) (some : R w0 x0) where
+  same_ahead : (s s' : State) (front rest : List Token) → s.rest ≡ front ++ s'.rest → head rest ≡ head s'.rest → look_at (front ++ rest) ≡ look_at s.rest
+  same_ahead s s' front rest parts same = head-look _ _ (head-append front rest s'.rest same) ∙ ap look_at (sym parts)
+
+  by-found : (s : State) (x : A) (s' : State) → by_look by s ≡ Found x s' → Finds R (by_look by) s x s'
+  by-found s x s' e =
+      elim (branch (look_at s.rest)) [
+        | inl ex ↦
+            let F = ex.found s x s' refl e in
+            record {
+              front = F.front;
+              parts = F.parts;
+              ends = F.ends;
+              spelled = F.spelled;
+              again = λ rest same. ap (λ v. by v (at s (F.front ++ rest))) (same_ahead s s' F.front rest F.parts same) ∙ F.again rest same;
+            }
+        | inr bad ↦ absurd (not_found s x s' (sym (ap (λ (q : Reader A). q s) bad.0) ∙ e))
+      ]
+
+  by-refused : (s : State) (n : ℕ) (s' : State) → by_look by s ≡ Failed (Unexpected n) s' → Refuses R (by_look by) s n s'
+  by-refused s n s' e =
+      elim (branch (look_at s.rest)) [
+        | inl ex ↦
+            let F = ex.refused s n s' refl e in
+            record {
+              front = F.front;
+              parts = F.parts;
+              place = F.place;
+              more = F.more;
+              value = F.value;
+              begins = F.begins;
+              again = λ rest same. ap (λ v. by v (at s (F.front ++ rest))) (same_ahead s s' F.front rest F.parts same) ∙ F.again rest same;
+            }
+        | inr bad ↦
+            refuses_here R (by_look by) s s' n w0 x0 some (refusal_is {A = A} s s' n (sym (ap (λ (q : Reader A). q s) bad.0) ∙ e))
+            (λ rest same. ap (λ v. by v (at s rest)) (head-look rest s.rest same) ∙ ap (λ (q : Reader A). q (at s rest)) bad.0)
+      ]
+
+  by-complete : (w : List Token) (x : A) (s : State) (rest : List Token) → by_first C w x → s.rest ≡ w ++ rest → Stops g rest
+      → Ends (Enough effort s) (by_look by s) x (last_from s.before w) rest s.limited
+  by-complete w x s rest c e stop =
+      let led = c.1 in
+      let is : look_at s.rest ≡ c.0 = ap look_at (e ∙ ap (λ (r : List Token). r ++ rest) led.2) ∙ led.3 in
+      let go : Ends (Enough effort s) (by c.0 s) x (last_from s.before w) rest s.limited = elim (branch c.0) [
+        | inl ex ↦ ex.complete w x s rest is c.2 e stop
+        | inr bad ↦ absurd (bad.1 w x led c.2)
+      ] in
+      subst (λ v. Ends (Enough effort s) (by v s) x (last_from s.before w) rest s.limited) (sym is) go
+
+  pub exact_by : Exact effort Any R (by_first C) g (by_look by)
+  exact_by = record {
+    found = λ s x s' pre e. by-found s x s' e;
+    refused = λ s n s' pre e. by-refused s n s' e;
+    complete = λ w x s rest pre c e stop. by-complete w x s rest c e stop;
+  }
+
+-- ---- where a condition holds that has nothing to do with the tokens
+
+pub branch_allowed : {effort : Effort} {A : Type 0} (look : TokenLook) (b : Bool) (R C : Form A) (g : Test) (p : Reader A)
+    → Exact effort (Looks look) R C g p → Branch effort look R (where_true b C) g (allow b p)
+branch_allowed seen true R C g p e = inl (record { found = e.found; refused = e.refused; complete = λ w x s rest pre c. e.complete w x s rest pre c.1 })
+branch_allowed seen false R C g p e = inr (refl, λ w x led c. clash refl c.0)
+
+-- ---- only where the next token passes a test
+
+module _ {effort : Effort} {A : Type 0} (test : Test) {R C : Form A} {g : Test} (p : Reader A) (ep : Exact effort (Passing test) R C g p)
+    (heads : (w : List Token) (x : A) (rest : List Token) → C w x → passes test (w ++ rest) ≡ true) (w0 : List Token) (x0 : A) (some : R w0 x0) where
+  only-found : (s : State) (x : A) (s' : State) → only test p s ≡ Found x s' → Finds R (only test p) s x s'
+  only-found s x s' e =
+      elim (chosen (passes test s.rest) p refuse s (Found x s') e) [
+        | inl c ↦
+            let F = ep.found s x s' c.0 c.1 in
+            record {
+              front = F.front;
+              parts = F.parts;
+              ends = F.ends;
+              spelled = F.spelled;
+              again = λ rest same. ap (λ b. cond b p refuse (at s (F.front ++ rest)))
+                  (head-passes test _ _ (head-append F.front rest s'.rest same) ∙ ap (passes test) (sym F.parts) ∙ c.0) ∙ F.again rest same;
+            }
+        | inr c ↦ absurd (not_found s x s' c.1)
+      ]
+
+  only-refused : (s : State) (n : ℕ) (s' : State) → only test p s ≡ Failed (Unexpected n) s' → Refuses R (only test p) s n s'
+  only-refused s n s' e =
+      elim (chosen (passes test s.rest) p refuse s (Failed (Unexpected n) s') e) [
+        | inl c ↦
+            let F = ep.refused s n s' c.0 c.1 in
+            record {
+              front = F.front;
+              parts = F.parts;
+              place = F.place;
+              more = F.more;
+              value = F.value;
+              begins = F.begins;
+              again = λ rest same. ap (λ b. cond b p refuse (at s (F.front ++ rest)))
+                  (head-passes test _ _ (head-append F.front rest s'.rest same) ∙ ap (passes test) (sym F.parts) ∙ c.0) ∙ F.again rest same;
+            }
+        | inr c ↦
+            refuses_here R (only test p) s s' n w0 x0 some (refusal_is {A = A} s s' n c.1)
+            (λ rest same. ap (λ b. cond b p refuse (at s rest)) (head-passes test rest s.rest same ∙ c.0))
+      ]
+
+  pub exact_only : Exact effort Any R C g (only test p)
+  exact_only = record {
+    found = λ s x s' pre e. only-found s x s' e;
+    refused = λ s n s' pre e. only-refused s n s' e;
+    complete = λ w x s rest pre c e stop.
+        let is : passes test s.rest ≡ true = ap (passes test) e ∙ heads w x rest c in
+        chosen_ends (passes test s.rest) p refuse s _ x _ rest _ (λ t. ep.complete w x s rest is c e stop) (λ f. absurd (clash f is));
+  }
