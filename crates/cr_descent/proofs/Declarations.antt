@@ -1,0 +1,602 @@
+-- Declarations and programs are read exactly.
+use Rattle.std.proofs.Common.{◌≡◌, ℕ, Bool, true, false, not, List, [], ◌∷◌, ◌++◌, inl, inr, refl, sym, ap, subst, ◌∙◌}
+use Rattle.std.specs.Prelude.{Option, Some, None, is_some, codes}
+use Rattle.std.specs.Str.{bytes_eq}
+use Rattle.cr_syntax.specs.declared.look.TokenLook.{TokenLook}
+use Rattle.cr_syntax.specs.declared.look.TokenLook.TheVariants as l
+use Rattle.cr_syntax.specs.declared.token.Token.{Token}
+use Rattle.cr_syntax.specs.declared.token.TokenKind.{TokenKind}
+use Rattle.cr_syntax.specs.declared.token.TokenKind.TheVariants as k
+use Rattle.cr_syntax.specs.Look.{look_of}
+use Rattle.cr_grammar.specs.declared.tree.Tree.{Tree}
+use Rattle.cr_grammar.specs.declared.tree.Tree.TheVariants as tree
+use Rattle.cr_grammar.specs.declared.within.Within.{Within}
+use Rattle.cr_grammar.specs.Forms.{Form, Word, nothing}
+use Rattle.cr_grammar.specs.Forms as f
+use Rattle.cr_grammar.specs.Operators as o
+use Rattle.cr_grammar.specs.Wanted.{Wanted, Written, Stmt, in_method, top}
+use Rattle.cr_grammar.specs.Expressions as ex
+use Rattle.cr_grammar.specs.Laws.{begins_stmt}
+use Rattle.cr_grammar.specs.Grammar as gr
+use Rattle.cr_exact.specs.Reader.{Reader, Test, passes, pure, choose, expect, only, either, seen, tight_seen, never, part, beside, ◌>>◌}
+use Rattle.cr_exact.specs.Lists.{optional, listed, parenthesized, stmts}
+use Rattle.cr_exact.specs.Exact.{Effort, Exact, Any, Stops}
+use Rattle.cr_exact.proofs.Sequence.{exact_bind, exact_pure, exact_goes, weaken}
+use Rattle.cr_exact.proofs.Tokens.{Passing, clash, a_token, exact_word, exact_take, exact_choose, exact_only}
+use Rattle.cr_exact.proofs.Nodes.{exact_beside}
+use Rattle.cr_exact.proofs.Loops.{stops_left, either_left, either_right}
+use Rattle.cr_descent.specs.Goes as g
+use Rattle.cr_descent.specs.Words.{ident, constant, instance_variable}
+use Rattle.cr_descent.specs.Bodies.{body}
+use Rattle.cr_descent.specs.Declarations as declarations
+use Rattle.cr_descent.proofs.Claims as claims
+use Rattle.cr_descent.proofs.Lists.{exact_or_none, exact_parenthesized, exact_stmts}
+use Rattle.cr_descent.proofs.Bodies.{exact_body}
+use Rattle.cr_descent.proofs.Words.{exact_ident, exact_constant, exact_instance_variable}
+use Rattle.cr_descent.proofs.Steps.{At, Starts, Begins, Reads, Somehow, starts_word, starts_holding, starts_bind, starts_or, starts_where, starts_maybe, starts_or_none, starts_tight, starts_passing, starts_led, at_seen, first_passes, first_stops, not_seen, other_look, not_either, stops_never, somehow_bind, somehow_word, somehow_nothing, somehow_seps, somehow_parenthesized, somehow_stmts, reads_word, reads_pure, reads_part, reads_grow, reads_bind, reads_sure, reads_map, reads_goes, reads_free, reads_as, reads_choose, reads_or_nothing, reads_optional, reads_listed, exact_tight}
+
+-- ---- names
+
+-- a word that must be tight, and a value
+abbrev tight_word : {A : Type 0} → TokenLook → A → Form A
+tight_word a x = f.◌>>=◌ (f.tight (f.word a)) (λ _. nothing x)
+
+exact_tight_word : (effort : Effort) (kind : TokenKind) (g : Test) → Exact effort (Passing (tight_seen (look_of kind))) (f.tight (f.word (look_of kind))) (f.tight (f.word (look_of kind))) g (expect (look_of kind))
+exact_tight_word effort kind g =
+    exact_tight (look_of kind) (starts_word (look_of kind) (at_seen (look_of kind))) (a_token kind ∷ []) 0 (a_token kind, refl, (refl, refl)) refl
+    (exact_word effort kind g)
+
+-- a tight word comes, and a value for it
+exact_tight_value : (effort : Effort) (kind : TokenKind) {A : Type 0} (x : A)
+    → Exact effort (Passing (tight_seen (look_of kind))) (tight_word (look_of kind) x) (tight_word (look_of kind) x) never (expect (look_of kind) >> pure x)
+exact_tight_value effort kind x =
+    exact_bind (λ _. nothing x) (λ _. nothing x) never (λ _. pure x) (exact_tight_word effort kind never) (λ _. exact_pure effort x never)
+    (λ _. ([], x, (refl, refl))) (λ _ b y rest d stop. stops_never (b ++ rest))
+
+starts_tight_word : (a : TokenLook) {A : Type 0} (x : A) → Starts true (tight_seen a) (tight_word a x)
+starts_tight_word a x = starts_bind (λ _. nothing x) (starts_tight a (starts_word a (at_seen a)))
+
+-- a word that must be tight
+reads_tight_word : (effort : Effort) (kind : TokenKind) (g : Test) → Reads effort (f.tight (f.word (look_of kind))) (f.tight (f.word (look_of kind))) g (only (tight_seen (look_of kind)) (expect (look_of kind)))
+reads_tight_word effort kind g = (
+  exact_only (tight_seen (look_of kind)) (expect (look_of kind)) (exact_tight_word effort kind g)
+      (starts_tight (look_of kind) (starts_word (look_of kind) (at_seen (look_of kind)))).first
+      (a_token kind ∷ []) 0 (refl, (a_token kind, refl, (refl, refl))),
+  (a_token kind ∷ [], 0, (refl, (a_token kind, refl, (refl, refl)))),
+)
+
+reads_ident : (effort : Effort) (g : Test) → Reads effort f.ident f.ident g ident
+reads_ident effort g = (exact_ident effort g, (a_token (k.Ident []) ∷ [], record { at = 0; text = [] }, (a_token (k.Ident []), refl, (refl, refl))))
+
+pub reads_constant : (effort : Effort) (g : Test) → Reads effort f.constant f.constant g constant
+reads_constant effort g = (exact_constant effort g, (a_token (k.Constant []) ∷ [], record { at = 0; text = [] }, (a_token (k.Constant []), refl, (refl, refl))))
+
+reads_variable : (effort : Effort) (g : Test) → Reads effort f.instance_variable f.instance_variable g instance_variable
+reads_variable effort g = (
+  exact_instance_variable effort g,
+  (
+    a_token (k.InstanceVariable []) ∷ [],
+    record { at = 0; text = [] },
+    (a_token (k.InstanceVariable []), refl, (refl, refl)),
+  ),
+)
+
+-- one look that is tight is not another
+pub not_tight : (a b : TokenLook) → (a ≡ b → ⊥) → At false a (tight_seen b)
+not_tight a b other true = refl
+not_tight a b other false = other_look a b other false
+
+-- ---- the name of a method
+
+-- a `=` or a `?` that is tight goes on
+abbrev pub goes_name : Test
+goes_name = either (tight_seen l.Equal) (tight_seen l.Question)
+
+abbrev setter : Word → List ℕ
+setter name = name.text ++ 61 ∷ []
+
+abbrev name_rest : Word → Bool → Form (List ℕ)
+name_rest name marked = f.◌<|>◌ (nothing name.text) (f.◌>>=◌ (f.where_true (not marked) (f.tight (f.word l.Equal))) (λ _. nothing (setter name)))
+
+reads_name_rest : (effort : Effort) (name : Word) (marked : Bool) → Reads effort (name_rest name marked) (name_rest name marked) (tight_seen l.Equal) (declarations.name_from name marked)
+reads_name_rest effort name true =
+    reads_as (name_rest name true) (name_rest name true) (λ w x c. inl c) none (reads_pure effort name.text (tight_seen l.Equal)) where
+      none : (w : List Token) (x : List ℕ) → name_rest name true w x → nothing name.text w x
+      none w x (inl c) = c
+      none w x (inr c) = absurd (clash refl c.4.0)
+reads_name_rest effort name false =
+    reads_as (name_rest name false) (name_rest name false) out back
+    (reads_or_nothing (tight_seen l.Equal) name.text (starts_tight_word l.Equal (setter name)) (exact_tight_value effort k.Equal (setter name))) where
+      out : (w : List Token) (x : List ℕ) → (f.◌<|>◌ (tight_word l.Equal (setter name)) (nothing name.text)) w x → name_rest name false w x
+      out w x (inl c) = inr (c.0, c.1, c.2, c.3, (refl, c.4), c.5)
+      out w x (inr c) = inl c
+
+      back : (w : List Token) (x : List ℕ) → name_rest name false w x → (f.◌<|>◌ (tight_word l.Equal (setter name)) (nothing name.text)) w x
+      back w x (inl c) = inr c
+      back w x (inr c) = inl (c.0, c.1, c.2, c.3, c.4.1, c.5)
+
+abbrev plain_name : Form (List ℕ)
+plain_name = f.◌>>=◌ f.ident (λ name. name_rest name (o.is_marked name.text))
+
+reads_plain_name : (effort : Effort) → Reads effort plain_name plain_name (tight_seen l.Equal) declarations.plain_name
+reads_plain_name effort = reads_sure (reads_ident effort never) (λ name. reads_name_rest effort name (o.is_marked name.text))
+
+-- what may stand behind the brackets
+abbrev index_rest : Form (List ℕ)
+index_rest = f.◌<|>◌ (nothing o.index_name) (f.◌<|>◌ (f.◌>>◌ (f.tight (f.word l.Equal)) (nothing o.index_set_name))
+    (f.◌>>◌ (f.tight (f.word l.Question)) (nothing o.index_question_name)))
+
+-- the same in the order in which it is tried
+abbrev index_tried : Form (List ℕ)
+index_tried = f.◌<|>◌ (tight_word l.Equal o.index_set_name) (f.◌<|>◌ (tight_word l.Question o.index_question_name) (nothing o.index_name))
+
+abbrev question_or_none : Form (List ℕ)
+question_or_none = f.◌<|>◌ (tight_word l.Question o.index_question_name) (nothing o.index_name)
+
+index_out : (w : List Token) (x : List ℕ) → index_tried w x → index_rest w x
+index_out w x (inl c) = inr (inl c)
+index_out w x (inr (inl c)) = inr (inr c)
+index_out w x (inr (inr c)) = inl c
+
+index_back : (w : List Token) (x : List ℕ) → index_rest w x → index_tried w x
+index_back w x (inl c) = inr (inr c)
+index_back w x (inr (inl c)) = inl c
+index_back w x (inr (inr c)) = inr (inl c)
+
+no_equal : (w : List Token) (x : List ℕ) (rest : List Token) → question_or_none w x → Stops goes_name rest → Stops (tight_seen l.Equal) (w ++ rest)
+no_equal w x rest (inl c) stop = (starts_led l.Question false (tight_seen l.Equal) (not_tight l.Question l.Equal (λ e. cc))
+    (starts_bind (λ _. nothing o.index_question_name) (starts_passing f.is_tight (starts_word l.Question (at_seen l.Question))))).first w x rest c
+no_equal w x rest (inr c) stop = ap (λ (v : List Token). passes (tight_seen l.Equal) (v ++ rest)) c.0 ∙ stops_left (tight_seen l.Equal) (tight_seen l.Question) rest
+    stop
+
+reads_index_rest : (effort : Effort) → Reads effort index_rest index_rest goes_name
+    (choose (tight_seen l.Equal) (expect l.Equal >> pure o.index_set_name)
+    (choose (tight_seen l.Question) (expect l.Question >> pure o.index_question_name) (pure o.index_name)))
+reads_index_rest effort =
+    reads_as index_rest index_rest index_out index_back (
+      exact_choose effort (tight_seen l.Equal) (tight_word l.Equal o.index_set_name) (tight_word l.Equal o.index_set_name) question_or_none question_or_none
+          goes_name _ _
+          (exact_goes goes_name (λ a spaced stop. refl) (exact_tight_value effort k.Equal o.index_set_name))
+          (weaken _ (exact_goes goes_name (λ a spaced stop. either_right _ _ stop)
+          (reads_or_nothing (tight_seen l.Question) o.index_name (starts_tight_word l.Question o.index_question_name)
+          (exact_tight_value effort k.Question o.index_question_name)).0))
+          (starts_tight_word l.Equal o.index_set_name).first no_equal,
+      ([], o.index_name, inr (inr (refl, refl))),
+    )
+
+abbrev index_names : Form (List ℕ)
+index_names = f.◌>>◌ (f.◌>>◌ (f.word l.OpenBracket) (f.tight (f.word l.CloseBracket))) index_rest
+
+reads_index_names : (effort : Effort) → Reads effort index_names index_names goes_name declarations.index_names
+reads_index_names effort =
+    reads_sure (reads_sure (reads_word effort k.OpenBracket never) (λ _. reads_tight_word effort k.CloseBracket never)) (λ _. reads_index_rest effort)
+
+abbrev operator : Form (List ℕ)
+operator = f.one (λ t x. o.operator_name (look_of t.kind) ≡ Some x)
+
+reads_operator : (effort : Effort) (g : Test) → Reads effort operator operator g declarations.operator
+reads_operator effort g = (
+  exact_take effort (λ t x. o.operator_name (look_of t.kind) ≡ Some x) g (λ t. o.operator_name (look_of t.kind)) (λ t x e. e) (λ t x e. e) (a_token k.Plus)
+      (codes "+") refl,
+  (a_token k.Plus ∷ [], codes "+", (a_token k.Plus, refl, refl)),
+)
+
+-- what is no operator does not begin one
+starts_operator : (a : TokenLook) → is_some (o.operator_name a) ≡ false → Starts false (seen a) operator
+starts_operator a not = record {
+  first = λ w x rest c. ap (λ (v : List Token). passes (seen a) (v ++ rest)) c.1
+      ∙ not_seen a (λ b. is_some (o.operator_name b)) not (look_of c.0.kind) c.0.spaced (ap (λ (v : Option (List ℕ)). is_some v) c.2);
+}
+
+-- the lines of the name, in the order in which they are tried
+abbrev name_tried : Form (List ℕ)
+name_tried = f.◌<|>◌ plain_name (f.◌<|>◌ index_names operator)
+
+reads_name_tried : (effort : Effort) → Reads effort name_tried name_tried goes_name declarations.method_name
+reads_name_tried effort =
+    reads_choose (seen l.Ident) (starts_bind _ (starts_holding (λ text. k.Ident text) l.Ident (λ text. refl) (at_seen l.Ident)))
+    (starts_or (starts_bind _ (starts_bind _ (starts_word l.OpenBracket (other_look l.OpenBracket l.Ident (λ e. cc))))) (starts_operator l.Ident refl))
+    (reads_goes goes_name (λ a spaced stop. either_left _ _ stop) (reads_plain_name effort))
+    (reads_choose (seen l.OpenBracket) (starts_bind _ (starts_bind _ (starts_word l.OpenBracket (at_seen l.OpenBracket)))) (starts_operator l.OpenBracket refl)
+    (reads_index_names effort) (reads_operator effort goes_name))
+
+module _ (effort : Effort) (rec : Wanted → Reader Tree) (S T : Wanted → Form Tree) (given : claims.Given effort rec S T) where
+  name_out : (w : List Token) (x : List ℕ) → name_tried w x → gr.name S w x
+  name_out w x (inl (a, b, name, is, c, inl d)) = inl (a, b, name, is, c, d)
+  name_out w x (inl (a, b, name, is, c, inr d)) = inr (inl (a, b, name, is, c, d))
+  name_out w x (inr (inl c)) = inr (inr (inr c))
+  name_out w x (inr (inr c)) = inr (inr (inl c))
+
+  name_back : (w : List Token) (x : List ℕ) → gr.name T w x → name_tried w x
+  name_back w x (inl (a, b, name, is, c, d)) = inl (a, b, name, is, c, inl d)
+  name_back w x (inr (inl (a, b, name, is, c, d))) = inl (a, b, name, is, c, inr d)
+  name_back w x (inr (inr (inl c))) = inr (inr c)
+  name_back w x (inr (inr (inr c))) = inr (inl c)
+
+  pub reads_name : Reads effort (gr.name S) (gr.name T) goes_name declarations.method_name
+  reads_name = reads_as (gr.name S) (gr.name T) name_out name_back (reads_name_tried effort)
+
+  -- ---- parameters
+
+  reads_rec : (v : Wanted) → Reads effort (S v) (T v) (g.goes_of v) (rec v)
+  reads_rec v = (given.exact v, given.some v)
+
+  reads_restriction : Reads effort (gr.restriction S) (gr.restriction T) g.goes_type (declarations.restriction effort.turns rec)
+  reads_restriction = reads_sure (reads_word effort k.Colon never) (λ _. reads_part (reads_rec (Written true)))
+
+  -- [ ":" type ] goes on by a `:`, or as a type does
+  abbrev pub goes_restricted : Test
+  goes_restricted = either (seen l.Colon) g.goes_type
+
+  reads_maybe_restriction : Reads effort (f.maybe (gr.restriction S)) (f.maybe (gr.restriction T)) goes_restricted (declarations.maybe_restriction effort.turns rec)
+  reads_maybe_restriction = reads_optional (seen l.Colon) (starts_bind _ (starts_word l.Colon (at_seen l.Colon))) reads_restriction
+
+  abbrev pub parameter : (Wanted → Form Tree) → (List ℕ → TokenKind) → Bool → Form Tree
+  parameter Q kind instance = f.◌>>=◌ (f.holding kind) (λ name. f.◌>>=◌ (f.maybe (gr.restriction Q)) (λ of. nothing (tree.Parameter name.at instance name.text of)))
+
+  reads_parameter : (kind : List ℕ → TokenKind) (p : Reader Word) (instance : Bool) → Reads effort (f.holding kind) (f.holding kind) never p
+      → Reads effort (parameter S kind instance) (parameter T kind instance) goes_restricted (declarations.parameter effort.turns rec p instance)
+  reads_parameter kind p instance e =
+      reads_sure e (λ name. reads_grow name.at (reads_map (λ of. tree.Parameter name.at instance name.text of) reads_maybe_restriction))
+
+  abbrev pub local : (Wanted → Form Tree) → Form Tree
+  local Q = parameter Q (λ text. k.Ident text) false
+
+  abbrev pub field : (Wanted → Form Tree) → Form Tree
+  field Q = parameter Q (λ text. k.InstanceVariable text) true
+
+  reads_local : Reads effort (local S) (local T) goes_restricted (declarations.parameter effort.turns rec ident false)
+  reads_local = reads_parameter (λ text. k.Ident text) ident false (reads_ident effort never)
+
+  reads_field : Reads effort (field S) (field T) goes_restricted (declarations.parameter effort.turns rec instance_variable true)
+  reads_field = reads_parameter (λ text. k.InstanceVariable text) instance_variable true (reads_variable effort never)
+
+  abbrev pub param : (Wanted → Form Tree) → Bool → Form Tree
+  param Q instance = f.◌<|>◌ (local Q) (f.where_true instance (field Q))
+
+  pub reads_param : (instance : Bool) → Reads effort (param S instance) (param T instance) goes_restricted (declarations.param effort.turns rec instance)
+  reads_param true =
+      reads_as (param S true) (param T true) out back
+      (reads_choose (seen l.InstanceVariable)
+      (starts_bind _ (starts_holding (λ text. k.InstanceVariable text) l.InstanceVariable (λ text. refl) (at_seen l.InstanceVariable)))
+      (starts_bind _ (starts_holding (λ text. k.Ident text) l.Ident (λ text. refl) (other_look l.Ident l.InstanceVariable (λ e. cc))))
+      reads_field reads_local) where
+        out : (w : List Token) (x : Tree) → (f.◌<|>◌ (field S) (local S)) w x → param S true w x
+        out w x (inl c) = inr (refl, c)
+        out w x (inr c) = inl c
+
+        back : (w : List Token) (x : Tree) → param T true w x → (f.◌<|>◌ (field T) (local T)) w x
+        back w x (inl c) = inr c
+        back w x (inr c) = inl c.1
+  reads_param false = reads_as (param S false) (param T false) (λ w x c. inl c) back reads_local where
+    back : (w : List Token) (x : Tree) → param T false w x → local T w x
+    back w x (inl c) = c
+    back w x (inr c) = absurd (clash refl c.0)
+
+  pub begins_param : (a : TokenLook) (instance : Bool) → (l.Ident ≡ a → ⊥) → (l.InstanceVariable ≡ a → ⊥) → Begins (seen a) (param T instance)
+  begins_param a instance one other =
+      starts_or (starts_bind _ (starts_holding (λ text. k.Ident text) l.Ident (λ text. refl) (other_look l.Ident a one)))
+      (starts_where instance (starts_bind _ (starts_holding (λ text. k.InstanceVariable text) l.InstanceVariable (λ text. refl)
+      (other_look l.InstanceVariable a other))))
+
+  -- R in parentheses that are tight, or nothing
+  reads_enclosed : {A : Type 0} {R C : Form (List A)} (p : Reader (List A)) → Somehow R
+      → Exact effort Any (f.parenthesized R) (f.parenthesized C) never (parenthesized effort.turns p)
+      → Reads effort (f.◌<|>◌ (f.tight (f.parenthesized R)) (nothing [])) (f.◌<|>◌ (f.tight (f.parenthesized C)) (nothing [])) (tight_seen l.OpenParenthesis) (declarations.enclosed effort.turns rec p)
+  reads_enclosed {R = R} {C = C} p some e =
+      let s = somehow_parenthesized some in
+      reads_or_nothing (tight_seen l.OpenParenthesis) [] (starts_tight l.OpenParenthesis (starts_bind _ (starts_word l.OpenParenthesis (at_seen l.OpenParenthesis))))
+      (exact_tight l.OpenParenthesis (starts_bind _ (starts_word l.OpenParenthesis (at_seen l.OpenParenthesis))) s.0 s.1 s.2 refl e)
+
+  -- the same and what follows it
+  pub starts_enclosed : (h : Test) {A B : Type 0} {C : Form (List A)} (D : List A → Form B) → At false l.OpenParenthesis h → ((xs : List A) → Starts false h (D xs))
+      → Starts false h (f.◌>>=◌ (f.◌<|>◌ (f.tight (f.parenthesized C)) (nothing [])) D)
+  starts_enclosed h D not next = starts_or_none D (starts_passing f.is_tight (starts_bind _ (starts_word l.OpenParenthesis not))) next
+
+  abbrev pub goes_listed : Test
+  goes_listed = either (seen l.Comma) goes_restricted
+
+  pub reads_params : (instance : Bool)
+      → Reads effort (f.listed (param S instance)) (f.listed (param T instance)) goes_listed (listed effort.turns (part (declarations.param effort.turns rec instance)))
+  reads_params instance =
+      reads_listed (not_either (seen l.Colon) g.goes_type (other_look l.Comma l.Colon (λ e. cc)) (λ spaced. refl))
+      (begins_param l.Newline instance (λ e. cc) (λ e. cc)) (reads_part (reads_param instance))
+
+  abbrev pub parameters : (Wanted → Form Tree) → Bool → Form (List Tree)
+  parameters Q instance = f.◌<|>◌ (f.tight (f.parenthesized (f.or_none (f.listed (param Q instance))))) (nothing [])
+
+  -- no token of this look goes on in a list of parameters
+  pub listed_not : (a : TokenLook) → (a ≡ l.Comma → ⊥) → (a ≡ l.Colon → ⊥) → At false a g.goes_type → At false a goes_listed
+  listed_not a comma colon type = not_either (seen l.Comma) goes_restricted (other_look a l.Comma comma)
+      (not_either (seen l.Colon) g.goes_type (other_look a l.Colon colon) type)
+
+  pub reads_parameters : (within : Within)
+      → Reads effort (parameters S within.initialize) (parameters T within.initialize) (tight_seen l.OpenParenthesis) (declarations.parameters effort.turns rec within)
+  reads_parameters within =
+      reads_enclosed _ ([], [], inr (refl, refl))
+      (reads_sure (reads_word effort k.OpenParenthesis never) (λ _. (
+        exact_or_none effort (f.listed (param S within.initialize)) (f.listed (param T within.initialize)) goes_listed _ (reads_params within.initialize).0
+            (starts_bind _ (begins_param l.Newline within.initialize (λ e. cc) (λ e. cc))).first
+            (listed_not l.Newline (λ e. cc) (λ e. cc) (λ spaced. refl)) k.CloseParenthesis (listed_not l.CloseParenthesis (λ e. cc) (λ e. cc) (λ spaced. refl))
+            (λ e. cc)
+            (starts_bind _ (begins_param l.CloseParenthesis within.initialize (λ e. cc) (λ e. cc))).first,
+        somehow_bind somehow_seps (λ _. somehow_bind {R = f.or_none (f.listed (param S within.initialize))} ([], [], inr (refl, refl)) (λ xs.
+            somehow_bind somehow_seps (λ _. somehow_bind (somehow_word k.CloseParenthesis) (λ _. somehow_nothing xs)))),
+      ))).0
+
+  -- ---- methods
+
+  abbrev pub result : (Wanted → Form Tree) → Bool → Form (Option Tree)
+  result Q initialize = f.◌<|>◌ (nothing None) (f.where_true (not initialize) (f.maybe (gr.restriction Q)))
+
+  pub result_back : (Q : Wanted → Form Tree) (initialize : Bool) (w : List Token) (x : Option Tree) → result Q initialize w x → f.maybe (gr.restriction Q) w x
+  result_back Q initialize w x (inl c) = subst (f.maybe (gr.restriction Q) w) (sym c.1) c.0
+  result_back Q initialize w x (inr c) = c.1
+
+  pub reads_result : (initialize : Bool) → Reads effort (result S initialize) (result T initialize) goes_restricted (declarations.result_type effort.turns rec initialize)
+  reads_result true = reads_as (result S true) (result T true) (λ w x c. inl c) back (reads_pure effort None goes_restricted) where
+    back : (w : List Token) (x : Option Tree) → result T true w x → nothing None w x
+    back w x (inl c) = c
+    back w x (inr c) = absurd (clash refl c.0)
+  reads_result false = reads_as (result S false) (result T false) (λ w x c. inr (refl, c)) (result_back T false) reads_maybe_restriction
+
+  -- a result type and what follows it
+  pub starts_result : (h : Test) (initialize : Bool) (D : Option Tree → Form Tree) → At false l.Colon h → ((x : Option Tree) → Starts false h (D x))
+      → Starts false h (f.◌>>=◌ (result T initialize) D)
+  starts_result h initialize D colon next = record {
+    first = λ w y rest c. (starts_maybe {C = gr.restriction T} D (starts_bind _ (starts_word l.Colon colon)) next).first w y rest
+        (c.0, c.1, c.2, c.3, result_back T initialize c.0 c.2 c.4, c.5);
+  }
+
+  reads_body : (within : Within) → Reads effort (ex.body S within) (ex.body T within) g.goes_body (body effort.turns rec within)
+  reads_body within = (exact_body effort rec S T given within, somehow_stmts _)
+
+  -- no token of this look goes on as a name, where it is neither `=` nor `?`
+  pub name_not : (a : TokenLook) → (a ≡ l.Equal → ⊥) → (a ≡ l.Question → ⊥) → At false a goes_name
+  name_not a equal question = not_either (tight_seen l.Equal) (tight_seen l.Question) (not_tight a l.Equal equal) (not_tight a l.Question question)
+
+  reads_def : (class : Bool) → Reads effort (gr.def S class) (gr.def T class) never (declarations.def effort.turns rec class)
+  reads_def class =
+      reads_sure (reads_word effort k.Def never) (λ at. reads_grow at
+      (reads_bind reads_name (λ name.
+      reads_bind (reads_parameters (in_method class name)) (λ parameters.
+      reads_bind (reads_result (bytes_eq name o.initialize_name)) (λ result.
+      reads_sure (reads_word effort k.Newline never) (λ _.
+      reads_bind (reads_body (in_method class name)) (λ body.
+      reads_map (λ _. _) (reads_word effort k.KeywordEnd never))
+      (λ body. starts_bind _ (starts_word l.KeywordEnd (λ spaced. refl)))))
+      (λ result. starts_bind _ (starts_word l.Newline (not_either (seen l.Colon) g.goes_type (other_look l.Newline l.Colon (λ e. cc)) (λ spaced. refl)))))
+      (λ parameters. starts_result (tight_seen l.OpenParenthesis) (bytes_eq name o.initialize_name) _ (not_tight l.Colon l.OpenParenthesis (λ e. cc))
+      (λ result. starts_bind _ (starts_word l.Newline (not_tight l.Newline l.OpenParenthesis (λ e. cc))))))
+      (λ name. starts_enclosed goes_name _ (name_not l.OpenParenthesis (λ e. cc) (λ e. cc))
+      (λ parameters. starts_result goes_name (bytes_eq name o.initialize_name) _ (name_not l.Colon (λ e. cc) (λ e. cc))
+      (λ result. starts_bind _ (starts_word l.Newline (name_not l.Newline (λ e. cc) (λ e. cc))))))))
+
+  -- ---- members
+
+  pub starts_def : {v : Bool} {h : Test} (class : Bool) → At v l.Def h → Starts v h (gr.def T class)
+  starts_def class at = starts_bind _ (starts_word l.Def at)
+
+  reads_include : Reads effort (gr.include S) (gr.include T) never (declarations.include)
+  reads_include = reads_sure (reads_word effort k.Include never) (λ at. reads_grow at (reads_map (λ name. tree.Include at name.text) (reads_constant effort never)))
+
+  pub starts_include : {v : Bool} {h : Test} → At v l.Include h → Starts v h (gr.include T)
+  starts_include at = starts_bind _ (starts_word l.Include at)
+
+  abbrev pub declaration : (Wanted → Form Tree) → Form Tree
+  declaration Q = f.◌>>=◌ f.instance_variable (λ name. f.◌>>=◌ (gr.restriction Q) (λ of. nothing (tree.Declaration name.at name.text of)))
+
+  reads_declaration : Reads effort (declaration S) (declaration T) g.goes_type (declarations.declaration effort.turns rec)
+  reads_declaration = reads_sure (reads_variable effort never) (λ name. reads_grow name.at
+      (reads_map (λ of. tree.Declaration name.at name.text of) reads_restriction))
+
+  pub starts_declaration : {v : Bool} {h : Test} → At v l.InstanceVariable h → Starts v h (declaration T)
+  starts_declaration at = starts_bind _ (starts_holding (λ text. k.InstanceVariable text) l.InstanceVariable (λ text. refl) at)
+
+  pub reads_acc : Reads effort (gr.acc S) (gr.acc T) goes_restricted (declarations.acc effort.turns rec)
+  reads_acc = reads_sure (reads_ident effort never) (λ name. reads_grow name.at (reads_map (λ of. tree.Accessor name.at name.text of) reads_maybe_restriction))
+
+  reads_accessors : (kind : TokenKind) (property : Bool)
+      → Reads effort (gr.accessors S (look_of kind) property) (gr.accessors T (look_of kind) property) goes_listed (declarations.accessors effort.turns rec (look_of kind) property)
+  reads_accessors kind property =
+      reads_sure (reads_word effort kind never) (λ at. reads_grow at (reads_map (λ found. tree.Accessors at property found)
+      (reads_listed (not_either (seen l.Colon) g.goes_type (other_look l.Comma l.Colon (λ e. cc)) (λ spaced. refl))
+      (starts_bind _ (starts_holding (λ text. k.Ident text) l.Ident (λ text. refl) (other_look l.Ident l.Newline (λ e. cc)))) (reads_part reads_acc))))
+
+  pub starts_accessors : {v : Bool} {h : Test} (a : TokenLook) (property : Bool) → At v a h → Starts v h (gr.accessors T a property)
+  starts_accessors a property at = starts_bind _ (starts_word a at)
+
+  pub reads_member : Reads effort (gr.member S) (gr.member T) goes_listed (declarations.member effort.turns rec)
+  reads_member =
+      reads_choose (seen l.Def) (starts_def true (at_seen l.Def))
+      (starts_or (starts_include (other_look l.Include l.Def (λ e. cc))) (starts_or (starts_declaration (other_look l.InstanceVariable l.Def (λ e. cc)))
+      (starts_or (starts_accessors l.Getter false (other_look l.Getter l.Def (λ e. cc)))
+      (starts_accessors l.Property true (other_look l.Property l.Def (λ e. cc))))))
+      (reads_free goes_listed (reads_def true))
+      (reads_choose (seen l.Include) (starts_include (at_seen l.Include))
+      (starts_or (starts_declaration (other_look l.InstanceVariable l.Include (λ e. cc)))
+      (starts_or (starts_accessors l.Getter false (other_look l.Getter l.Include (λ e. cc)))
+      (starts_accessors l.Property true (other_look l.Property l.Include (λ e. cc)))))
+      (reads_free goes_listed reads_include)
+      (reads_choose (seen l.InstanceVariable) (starts_declaration (at_seen l.InstanceVariable))
+      (starts_or (starts_accessors l.Getter false (other_look l.Getter l.InstanceVariable (λ e. cc)))
+      (starts_accessors l.Property true (other_look l.Property l.InstanceVariable (λ e. cc))))
+      (reads_goes goes_listed (λ a spaced stop. either_right _ _ (either_right _ _ stop)) reads_declaration)
+      (reads_choose (seen l.Getter) (starts_accessors l.Getter false (at_seen l.Getter))
+      (starts_accessors l.Property true (other_look l.Property l.Getter (λ e. cc)))
+      (reads_accessors k.Getter false) (reads_accessors k.Property true))))
+
+  abbrev begins_member : Test
+  begins_member = declarations.begins_member
+
+  pub starts_member : Starts true begins_member (gr.member T)
+  starts_member =
+      starts_or (starts_def true (λ spaced. refl)) (starts_or (starts_include (λ spaced. refl)) (starts_or (starts_declaration (λ spaced. refl))
+      (starts_or (starts_accessors l.Getter false (λ spaced. refl)) (starts_accessors l.Property true (λ spaced. refl)))))
+
+  abbrev pub module_member : (Wanted → Form Tree) → Form Tree
+  module_member Q = f.◌<|>◌ (gr.def Q true) (gr.include Q)
+
+  pub reads_module_member : Reads effort (module_member S) (module_member T) never (declarations.module_member effort.turns rec)
+  reads_module_member = reads_choose (seen l.Def) (starts_def true (at_seen l.Def)) (starts_include (other_look l.Include l.Def (λ e. cc))) (reads_def true)
+      reads_include
+
+  abbrev begins_module_member : Test
+  begins_module_member = declarations.begins_module_member
+
+  pub starts_module_member : Starts true begins_module_member (module_member T)
+  starts_module_member = starts_or (starts_def true (λ spaced. refl)) (starts_include (λ spaced. refl))
+
+  -- ---- lists that a closing token follows
+
+  -- none of the tokens that close passes
+  closed : (test : Test) → At false l.KeywordEnd test → At false l.CloseBrace test → At false l.Else test → At false l.Elsif test → At false l.In test
+      → At false l.When test → At false l.End test
+      → (found : TokenLook) (spaced : Bool) → g.goes_body found spaced ≡ false → test found spaced ≡ false
+  closed test e1 e2 e3 e4 e5 e6 e7 l.KeywordEnd spaced stop = e1 spaced
+  closed test e1 e2 e3 e4 e5 e6 e7 l.CloseBrace spaced stop = e2 spaced
+  closed test e1 e2 e3 e4 e5 e6 e7 l.Else spaced stop = e3 spaced
+  closed test e1 e2 e3 e4 e5 e6 e7 l.Elsif spaced stop = e4 spaced
+  closed test e1 e2 e3 e4 e5 e6 e7 l.In spaced stop = e5 spaced
+  closed test e1 e2 e3 e4 e5 e6 e7 l.When spaced stop = e6 spaced
+  closed test e1 e2 e3 e4 e5 e6 e7 l.End spaced stop = e7 spaced
+  closed test e1 e2 e3 e4 e5 e6 e7 other spaced stop = absurd cc
+
+  pub closed_line : (found : TokenLook) (spaced : Bool) → g.goes_body found spaced ≡ false → seen l.Newline found spaced ≡ false
+  closed_line = closed (seen l.Newline) (other_look l.KeywordEnd l.Newline (λ e. cc)) (other_look l.CloseBrace l.Newline (λ e. cc))
+      (other_look l.Else l.Newline (λ e. cc))
+      (other_look l.Elsif l.Newline (λ e. cc)) (other_look l.In l.Newline (λ e. cc)) (other_look l.When l.Newline (λ e. cc)) (other_look l.End l.Newline (λ e. cc))
+
+  pub closed_listed : (found : TokenLook) (spaced : Bool) → g.goes_body found spaced ≡ false → goes_listed found spaced ≡ false
+  closed_listed = closed goes_listed (listed_not l.KeywordEnd (λ e. cc) (λ e. cc) (λ spaced. refl)) (listed_not l.CloseBrace (λ e. cc) (λ e. cc) (λ spaced. refl))
+      (listed_not l.Else (λ e. cc) (λ e. cc) (λ spaced. refl)) (listed_not l.Elsif (λ e. cc) (λ e. cc) (λ spaced. refl))
+      (listed_not l.In (λ e. cc) (λ e. cc) (λ spaced. refl))
+      (listed_not l.When (λ e. cc) (λ e. cc) (λ spaced. refl)) (listed_not l.End (λ e. cc) (λ e. cc) (λ spaced. refl))
+
+  pub closed_member : (found : TokenLook) (spaced : Bool) → g.goes_body found spaced ≡ false → begins_member found spaced ≡ false
+  closed_member = closed begins_member (λ s. refl) (λ s. refl) (λ s. refl) (λ s. refl) (λ s. refl) (λ s. refl) (λ s. refl)
+
+  pub closed_module_member : (found : TokenLook) (spaced : Bool) → g.goes_body found spaced ≡ false → begins_module_member found spaced ≡ false
+  closed_module_member = closed begins_module_member (λ s. refl) (λ s. refl) (λ s. refl) (λ s. refl) (λ s. refl) (λ s. refl) (λ s. refl)
+
+  abbrev begins_item : Test
+  begins_item = declarations.begins_item
+
+  pub closed_item : (found : TokenLook) (spaced : Bool) → g.goes_body found spaced ≡ false → begins_item found spaced ≡ false
+  closed_item = closed begins_item (λ s. refl) (λ s. refl) (λ s. refl) (λ s. refl) (λ s. refl) (λ s. refl) (λ s. refl)
+
+  pub closed_stmt : (found : TokenLook) (spaced : Bool) → g.goes_body found spaced ≡ false → g.goes_stmt found spaced ≡ false
+  closed_stmt = closed g.goes_stmt (λ s. refl) (λ s. refl) (λ s. refl) (λ s. refl) (λ s. refl) (λ s. refl) (λ s. refl)
+
+  -- ---- classes and modules
+
+  reads_constant_name : (h : Test) → Reads effort (gr.constant_text S) (gr.constant_text T) h (declarations.constant_name)
+  reads_constant_name h = reads_map (λ name. name.text) (reads_constant effort h)
+
+  begins_constant_name : (a : TokenLook) → (l.Constant ≡ a → ⊥) → Begins (seen a) (gr.constant_text T)
+  begins_constant_name a other = starts_bind _ (starts_holding (λ text. k.Constant text) l.Constant (λ text. refl) (other_look l.Constant a other))
+
+  reads_names : Reads effort (f.listed (gr.constant_text S)) (f.listed (gr.constant_text T)) (either (seen l.Comma) never) (listed effort.turns (declarations.constant_name))
+  reads_names = reads_listed (λ spaced. refl) (begins_constant_name l.Newline (λ e. cc)) (reads_constant_name never)
+
+  pub reads_class_parameters : Reads effort (f.◌<|>◌ (f.tight (f.parenthesized (f.listed (gr.constant_text S)))) (nothing [])) (f.◌<|>◌ (f.tight (f.parenthesized (f.listed (gr.constant_text T)))) (nothing []))
+      (tight_seen l.OpenParenthesis) (declarations.enclosed effort.turns rec (listed effort.turns (declarations.constant_name)))
+  reads_class_parameters =
+      reads_enclosed _ reads_names.1
+      (exact_parenthesized effort (f.listed (gr.constant_text S)) (f.listed (gr.constant_text T)) (either (seen l.Comma) never) _ reads_names.0
+      (starts_bind _ (begins_constant_name l.Newline (λ e. cc))).first reads_names.1.0 reads_names.1.1 reads_names.1.2
+      (not_either (seen l.Comma) never (other_look l.Newline l.Comma (λ e. cc)) (λ spaced. refl))
+      (not_either (seen l.Comma) never (other_look l.CloseParenthesis l.Comma (λ e. cc)) (λ spaced. refl)))
+
+  pub reads_superclass : Reads effort (f.maybe (f.◌>>◌ (f.word l.Less) (gr.constant_text S))) (f.maybe (f.◌>>◌ (f.word l.Less) (gr.constant_text T))) (either (seen l.Less) never)
+      (optional (seen l.Less) (expect l.Less >> declarations.constant_name))
+  reads_superclass = reads_optional (seen l.Less) (starts_bind _ (starts_word l.Less (at_seen l.Less)))
+      (reads_sure (reads_word effort k.Less never) (λ _. reads_constant_name never))
+
+  reads_members : Reads effort (f.stmts (gr.member S)) (f.stmts (gr.member T)) g.goes_body (stmts effort.turns begins_member (part (declarations.member effort.turns rec)))
+  reads_members = (
+    exact_stmts effort (gr.member S) (gr.member T) begins_member goes_listed _ (reads_part reads_member).0 starts_member.first (λ spaced. refl)
+        (listed_not l.Newline (λ e. cc) (λ e. cc) (λ spaced. refl))
+        g.goes_body (λ a spaced stop. (closed_line a spaced stop, closed_member a spaced stop, closed_listed a spaced stop)),
+    somehow_stmts _,
+  )
+
+  reads_module_members : Reads effort (f.stmts (module_member S)) (f.stmts (module_member T)) g.goes_body (stmts effort.turns begins_module_member (part (declarations.module_member effort.turns rec)))
+  reads_module_members = (
+    exact_stmts effort (module_member S) (module_member T) begins_module_member never _ (reads_part reads_module_member).0 starts_module_member.first
+        (λ spaced. refl) (λ spaced. refl)
+        g.goes_body (λ a spaced stop. (closed_line a spaced stop, closed_module_member a spaced stop, refl)),
+    somehow_stmts _,
+  )
+
+  reads_class : Reads effort (gr.class S) (gr.class T) never (declarations.class effort.turns rec)
+  reads_class =
+      reads_sure (reads_word effort k.Class never) (λ at. reads_grow at
+      (reads_sure (reads_constant effort never) (λ name.
+      reads_bind reads_class_parameters (λ parameters.
+      reads_bind reads_superclass (λ superclass.
+      reads_sure (reads_word effort k.Newline never) (λ _.
+      reads_bind reads_members (λ members.
+      reads_map (λ _. _) (reads_word effort k.KeywordEnd never))
+      (λ members. starts_bind _ (starts_word l.KeywordEnd (λ spaced. refl)))))
+      (λ superclass. starts_bind _ (starts_word l.Newline (not_either (seen l.Less) never (other_look l.Newline l.Less (λ e. cc)) (λ spaced. refl)))))
+      (λ parameters. starts_maybe _ (starts_bind _ (starts_word l.Less (not_tight l.Less l.OpenParenthesis (λ e. cc))))
+      (λ superclass. starts_bind _ (starts_word l.Newline (not_tight l.Newline l.OpenParenthesis (λ e. cc))))))))
+
+  reads_module : Reads effort (gr.module_of S) (gr.module_of T) never (declarations.module_of effort.turns rec)
+  reads_module =
+      reads_sure (reads_word effort k.Module never) (λ at. reads_grow at
+      (reads_sure (reads_constant effort never) (λ name.
+      reads_sure (reads_word effort k.Newline never) (λ _.
+      reads_bind reads_module_members (λ members.
+      reads_map (λ _. _) (reads_word effort k.KeywordEnd never))
+      (λ members. starts_bind _ (starts_word l.KeywordEnd (λ spaced. refl)))))))
+
+  -- ---- programs
+
+  pub starts_class : {v : Bool} {h : Test} → At v l.Class h → Starts v h (gr.class T)
+  starts_class at = starts_bind _ (starts_word l.Class at)
+
+  pub starts_module : {v : Bool} {h : Test} → At v l.Module h → Starts v h (gr.module_of T)
+  starts_module at = starts_bind _ (starts_word l.Module at)
+
+  -- no statement of the top level begins with this look
+  pub begins_stmt_not : (a : TokenLook) → begins_stmt top a ≡ false → Begins (seen a) (T (Stmt top))
+  begins_stmt_not a not = record {
+    first = λ w x rest c. first_stops (begins_stmt top) (seen a) (not_seen a (begins_stmt top) not) w rest
+        (given.stmt_begins top w x c);
+  }
+
+  pub reads_item : Reads effort (gr.item S) (gr.item T) g.goes_stmt (declarations.item effort.turns rec)
+  reads_item =
+      reads_choose (seen l.Class) (starts_class (at_seen l.Class))
+      (starts_or (starts_module (other_look l.Module l.Class (λ e. cc)))
+      (starts_or (starts_def false (other_look l.Def l.Class (λ e. cc))) (begins_stmt_not l.Class refl)))
+      (reads_free g.goes_stmt reads_class)
+      (reads_choose (seen l.Module) (starts_module (at_seen l.Module)) (starts_or (starts_def false (other_look l.Def l.Module (λ e. cc)))
+      (begins_stmt_not l.Module refl))
+      (reads_free g.goes_stmt reads_module)
+      (reads_choose (seen l.Def) (starts_def false (at_seen l.Def)) (begins_stmt_not l.Def refl) (reads_free g.goes_stmt (reads_def false)) (reads_rec (Stmt top))))
+
+  -- a statement begins an item
+  item_of : (a : TokenLook) (spaced : Bool) → begins_stmt top a ≡ true → begins_item a spaced ≡ true
+  item_of l.Class spaced is = refl
+  item_of l.Module spaced is = refl
+  item_of l.Def spaced is = refl
+  item_of other spaced is = is
+
+  pub starts_item : Starts true begins_item (gr.item T)
+  starts_item =
+      starts_or (starts_class (λ spaced. refl)) (starts_or (starts_module (λ spaced. refl)) (starts_or (starts_def false (λ spaced. refl))
+      (record { first = λ w x rest c. first_passes (begins_stmt top) begins_item item_of w rest (given.stmt_begins top w x c) })))
+
+  reads_items : Reads effort (f.stmts (gr.item S)) (f.stmts (gr.item T)) g.goes_body (stmts effort.turns begins_item (beside (declarations.item effort.turns rec)))
+  reads_items = (
+    exact_stmts effort (gr.item S) (gr.item T) begins_item g.goes_stmt _ (exact_beside _ reads_item.0) starts_item.first (λ spaced. refl) (λ spaced. refl)
+        g.goes_body (λ a spaced stop. (closed_line a spaced stop, closed_item a spaced stop, closed_stmt a spaced stop)),
+    somehow_stmts _,
+  )
+
+  pub exact_program : Exact effort Any (gr.program S) (gr.program T) never (declarations.program effort.turns rec)
+  exact_program =
+      (reads_bind reads_items (λ items. reads_map (λ _. _) (reads_word effort k.End never)) (λ items. starts_bind _ (starts_word l.End (λ spaced. refl)))).0

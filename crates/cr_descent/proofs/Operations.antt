@@ -1,0 +1,440 @@
+-- Operators and their operands are read exactly.
+use Rattle.std.proofs.Common.{◌≡◌, ℕ, zero, suc, Bool, true, false, ◌&&◌, cond, List, [], ◌∷◌, ◌++◌, inl, inr, refl, sym, ap, subst, ◌∙◌, append_assoc}
+use Rattle.std.specs.Prelude.{Option, Some, is_some}
+use Rattle.std.proofs.lemmas.List.{append-nil}
+use Rattle.cr_syntax.specs.declared.look.TokenLook.{TokenLook}
+use Rattle.cr_syntax.specs.declared.look.TokenLook.TheVariants as l
+use Rattle.cr_syntax.specs.declared.token.Token.{Token}
+use Rattle.cr_syntax.specs.declared.token.TokenKind.{TokenKind}
+use Rattle.cr_syntax.specs.declared.token.TokenKind.TheVariants as k
+use Rattle.cr_syntax.specs.Look.{look_of}
+use Rattle.cr_grammar.specs.declared.operator.Binary.{Binary}
+use Rattle.cr_grammar.specs.declared.operator.Binary.TheVariants as binary
+use Rattle.cr_grammar.specs.declared.operator.Unary.TheVariants as prefix
+use Rattle.cr_grammar.specs.declared.tree.Tree.{Tree}
+use Rattle.cr_grammar.specs.declared.tree.Tree.TheVariants as tree
+use Rattle.cr_grammar.specs.declared.within.Within.{Within}
+use Rattle.cr_grammar.specs.Forms.{Form, nothing, ◌<|>◌, repeated_of, word, with_last, last_look}
+use Rattle.cr_grammar.specs.Forms as f
+use Rattle.cr_grammar.specs.Operators as o
+use Rattle.cr_grammar.specs.Wanted.{Wanted, Unary}
+use Rattle.cr_grammar.specs.Laws.{first_is, begins_or}
+use Rattle.cr_grammar.specs.Expressions as ex
+use Rattle.cr_exact.specs.Reader.{State, Reader, and_then, ◌>>=◌, ◌>>◌, pure, refuse, Test, passes, look_at, seen, either, never, choose, only, repeated, grow, wrap, part}
+use Rattle.cr_exact.specs.Reader as r
+use Rattle.cr_exact.specs.Lists.{separators}
+use Rattle.cr_exact.specs.Exact.{last_from, Stops, Effort, Enough, Ends, Exact, Any}
+use Rattle.cr_exact.proofs.Sequence.{exact_bind, exact_pure, exact_map, exact_goes, weaken}
+use Rattle.cr_exact.proofs.Tokens.{Passing, clash, exact_take, exact_word, exact_choose, exact_only, look_is_same, same_look_is, a_token}
+use Rattle.cr_exact.proofs.Loops.{either_right, Apart, Heads, apart_stops, stops_left, stops_right, exact_repeated}
+use Rattle.cr_exact.proofs.Nodes.{exact_silent, exact_part, exact_last, silent_grow, silent_wrap}
+use Rattle.cr_descent.specs.Goes as g
+use Rattle.cr_descent.specs.Operand.{whole}
+use Rattle.cr_descent.specs.Primaries as primaries
+use Rattle.cr_descent.specs.Links as links
+use Rattle.cr_descent.specs.Operations as operations
+use Rattle.cr_descent.specs.Operations.{Operator, operator_of}
+use Rattle.cr_descent.proofs.Lists.{exact_separators, exact_passing}
+use Rattle.cr_descent.proofs.Links.{exact_postfix_tree}
+use Rattle.cr_descent.proofs.OperationForms as forms
+use Rattle.cr_descent.proofs.OperationForms.{Ended}
+use Rattle.cr_descent.proofs.Claims as claims
+
+-- ---- first tokens
+
+pub stops_never : (ts : List Token) → Stops never ts
+stops_never [] = refl
+stops_never (t ∷ ts) = refl
+
+first_passes : (test : Test) (w rest : List Token) → passes test w ≡ true → passes test (w ++ rest) ≡ true
+first_passes test [] rest is = absurd cc
+first_passes test (t ∷ w) rest is = is
+
+not_true : (b : Bool) → (b ≡ true → ⊥) → b ≡ false
+not_true true h = absurd (h refl)
+not_true false h = refl
+
+-- what begins with a token of another look
+pub begins_otherwise : (look : TokenLook) (w rest : List Token) → (w ≡ [] → ⊥) → (look_at w ≡ look → ⊥) → Stops (seen look) (w ++ rest)
+begins_otherwise found [] rest some other = absurd (some refl)
+begins_otherwise found (t ∷ w) rest some other = not_true _ (λ e. other (same_look_is _ _ e))
+
+-- A value begins with no separator.
+pub begins_no_line : (within : Within) (w rest : List Token) → first_is (begins_or within) w ≡ true → Stops (seen l.Newline) (w ++ rest)
+begins_no_line within [] rest is = absurd cc
+begins_no_line within (t ∷ w) rest is =
+    not_true _ (λ e. absurd (clash refl (sym (ap (begins_or within) (same_look_is _ _ e)) ∙ is)))
+
+-- what a word leads
+word_leads : (look : TokenLook) (w a b : List Token) (at : ℕ) → w ≡ a ++ b → word look a at → look_at w ≡ look
+word_leads found w a b at e c = ap look_at (e ∙ ap (λ (v : List Token). v ++ b) c.1) ∙ c.2.0
+
+pub word_heads : (look : TokenLook) (w a b rest : List Token) (at : ℕ) → w ≡ a ++ b → word look a at → passes (seen look) (w ++ rest) ≡ true
+word_heads found w a b rest at e c =
+    let whole : w ≡ c.0 ∷ b = e ∙ ap (λ (v : List Token). v ++ b) c.1 in
+    ap (λ (v : List Token). passes (seen found) (v ++ rest)) whole ∙ look_is_same _ _ c.2.0
+
+minus_is_no_bang : l.Minus ≡ l.Bang → ⊥
+minus_is_no_bang e = cc
+
+-- What an exact reader refuses at once begins nothing that is spelled.
+never_begins : {effort : Effort} {A : Type 0} {R C : Form A} {g : Test} (p : Reader A) → Exact effort Any R C g p
+    → (look : TokenLook) → ((s : State) → look_at s.rest ≡ look → p s ≡ refuse s) → (w : List Token) (x : A) → C w x → look_at w ≡ look → ⊥
+never_begins {effort = effort} p ep found refuses w x c is =
+    let s : State = record { before = l.Newline; rest = w; depth = 0; nodes = 0; height = 0; limited = false } in
+    let ends = ep.complete w x s [] tt c (sym (append-nil w)) refl in
+    (subst (λ o. Ends (Enough effort s) o x (last_from l.Newline w) [] false) (refuses s is) ends).0
+
+-- a line of the grammar, and what follows the first operand of one, from the relation of the constructs in it
+abbrev pub Line : Type 1
+Line = (Wanted → Form Tree) → Form Tree
+
+abbrev pub Following : Type 1
+Following = (Wanted → Form Tree) → Ended → Form Ended
+
+-- ---- an operator is none of what a level below goes on by
+
+pub apart_prod : (free : Bool) → Apart (g.is_operator o.prod_operator) (g.goes_operand free)
+apart_prod free l.Star spaced is = refl
+apart_prod free l.SlashSlash spaced is = refl
+apart_prod free l.Percent spaced is = refl
+apart_prod free l.WrappingStar spaced is = refl
+apart_prod free other spaced is = absurd cc
+
+pub apart_sum : (free : Bool) → Apart (g.is_operator o.sum_operator) (g.goes_prod free)
+apart_sum free l.Plus spaced is = refl
+apart_sum free l.Minus spaced is = refl
+apart_sum free l.WrappingPlus spaced is = refl
+apart_sum free l.WrappingMinus spaced is = refl
+apart_sum free other spaced is = absurd cc
+
+pub apart_shift : (free : Bool) → Apart (g.is_operator o.shift_operator) (g.goes_sum free)
+apart_shift free l.ShiftLeft spaced is = refl
+apart_shift free other spaced is = absurd cc
+
+pub apart_cmp : (free : Bool) → Apart (g.is_operator o.cmp_operator) (g.goes_shift free)
+apart_cmp free l.EqualEqual spaced is = refl
+apart_cmp free l.NotEqual spaced is = refl
+apart_cmp free l.Less spaced is = refl
+apart_cmp free l.LessEqual spaced is = refl
+apart_cmp free l.Greater spaced is = refl
+apart_cmp free l.GreaterEqual spaced is = refl
+apart_cmp free other spaced is = absurd cc
+
+pub apart_and : (free : Bool) → Apart (g.is_operator o.and_operator) (g.goes_cmp free)
+apart_and free l.AndAnd spaced is = refl
+apart_and free other spaced is = absurd cc
+
+pub apart_or : (free : Bool) → Apart (g.is_operator o.or_operator) (g.goes_and free)
+apart_or free l.OrOr spaced is = refl
+apart_or free other spaced is = absurd cc
+
+-- ---- only where a sign may stand
+
+-- nothing, only where the test is passed, and then the rest
+pub only_then : {A : Type 0} (b : Bool) (p : Reader A) (s : State) → let none : Reader (Unit {0}) = pure tt in and_then (cond b none refuse s) (λ _. p) ≡ cond b p refuse s
+only_then true p s = refl
+only_then false p s = refl
+
+module _ {effort : Effort} {A : Type 0} {R C : Form A} {g : Test} {p : Reader A} (real : forms.Real R) (w0 : List Token) (x0 : A) (some : R w0 x0)
+    (spaced : passes operations.is_spaced w0 ≡ true) (ep : Exact effort Any R C g p) where
+  exact_guarded : (b : Bool) → Exact effort Any (forms.guarded b R) (forms.guarded b C) g (operations.no_sign b >> p)
+  exact_guarded false = ep
+  exact_guarded true =
+      let same : only operations.is_spaced p ≡ (only operations.is_spaced (pure tt) >> p) = λ i s. sym (only_then (passes operations.is_spaced s.rest) p s) i in
+      subst (λ q. Exact effort Any (forms.guarded true R) (forms.guarded true C) g q) same
+      (exact_only operations.is_spaced p
+      (exact_passing (Passing operations.is_spaced) operations.is_spaced (λ ts is. is) real w0 x0 some spaced ep)
+      (λ w x rest c. first_passes operations.is_spaced w rest c.0) w0 x0 (spaced, some))
+
+module _ (effort : Effort) (rec : Wanted → Reader Tree) (S T : Wanted → Form Tree) (given : claims.Given effort rec S T) where
+  -- ---- `!` and `-` before an operand
+
+  module _ (within : Within) (free : Bool) where
+    exact_prefix : (kind : TokenKind) (make : ℕ → Tree → Tree)
+        → Exact effort Any (ex.unary_of S within free (look_of kind) make) (ex.unary_of T within free (look_of kind) make) (g.goes_operand free)
+        (operations.unary_of effort.turns rec within free (look_of kind) make)
+    exact_prefix kind make =
+        exact_bind (λ at. f.◌>>=◌ (S (Unary within free)) (λ x. nothing (make at x))) (λ at. f.◌>>=◌ (T (Unary within free)) (λ x. nothing (make at x))) (g.goes_operand free)
+        (λ at. grow at >> (part (rec (Unary within free)) >>= λ x. pure (make at x)))
+        (exact_word effort kind never)
+        (λ at. exact_silent (grow at) (silent_grow at) _
+        (exact_bind (λ x. nothing (make at x)) (λ x. nothing (make at x)) (g.goes_operand free) (λ x. pure (make at x))
+        (exact_part (rec (Unary within free)) (given.exact (Unary within free)))
+        (λ x. exact_pure effort (make at x) (g.goes_operand free))
+        (λ x. ([], make at x, (refl, refl)))
+        (λ x b y rest d stop. rw d.0 stop)))
+        (λ at. let s = given.some (Unary within free) in (s.0, make at s.1, forms.nothing_in (S (Unary within free)) (make at) s.0 s.1 s.2))
+        (λ at b y rest d stop. stops_never (b ++ rest))
+
+    abbrev pub postfix : Reader Tree
+    postfix = links.postfix effort.turns rec within free >>= λ x. pure (whole x)
+
+    -- the postfix, where its first token looks so
+    abbrev postfix_by : TokenLook → Reader Tree
+    postfix_by found s =
+        and_then (and_then (primaries.primary_by effort.turns rec within free found s) (repeated (links.is_link effort.turns rec within free) (links.link effort.turns rec within free) effort.turns))
+        (λ x. pure (whole x))
+
+    -- A postfix begins with neither `!` nor `-`.
+    not_bang : (w : List Token) (x : Tree) → ex.postfix T within free w x → look_at w ≡ l.Bang → ⊥
+    not_bang = never_begins postfix (exact_postfix_tree effort rec S T given within free) l.Bang (λ s is. ap (λ found. postfix_by found s) is)
+
+    pub not_minus : (w : List Token) (x : Tree) → ex.postfix T within free w x → look_at w ≡ l.Minus → ⊥
+    not_minus = never_begins postfix (exact_postfix_tree effort rec S T given within free) l.Minus (λ s is. ap (λ found. postfix_by found s) is)
+
+    pub postfix_some : (w : List Token) (x : Tree) → ex.postfix T within free w x → w ≡ [] → ⊥
+    postfix_some w x c = forms.first_real T within free w x (inr (inr c))
+
+    abbrev negate : ℕ → Tree → Tree
+    negate at x = tree.Unary at prefix.Negate x
+
+    exact_signed : Exact effort Any (ex.unary_of S within free l.Minus negate <|> ex.postfix S within free) (ex.unary_of T within free l.Minus negate <|> ex.postfix T within free)
+        (g.goes_operand free) (choose (seen l.Minus) (operations.unary_of effort.turns rec within free l.Minus negate) postfix)
+    exact_signed =
+        exact_choose effort (seen l.Minus) (ex.unary_of S within free l.Minus negate) (ex.unary_of T within free l.Minus negate) (ex.postfix S within free) (ex.postfix T within free)
+        (g.goes_operand free) (operations.unary_of effort.turns rec within free l.Minus negate) postfix
+        (weaken _ (exact_prefix k.Minus negate)) (weaken _ (exact_postfix_tree effort rec S T given within free))
+        (λ w x rest c. word_heads l.Minus w c.0 c.1 rest c.2 c.3 c.4)
+        (λ w x rest d stop. begins_otherwise l.Minus w rest (postfix_some w x d) (not_minus w x d))
+
+    pub other_than_bang : (w : List Token) (x : Tree) (rest : List Token) → (ex.unary_of T within free l.Minus negate <|> ex.postfix T within free) w x → Stops (seen l.Bang) (w ++ rest)
+    other_than_bang w x rest (inl c) =
+        begins_otherwise l.Bang w rest (forms.first_real T within free w x (inr (inl c))) (λ is. absurd (minus_is_no_bang (sym (word_leads l.Minus w c.0 c.1 c.2 c.3 c.4) ∙ is)))
+    other_than_bang w x rest (inr c) = begins_otherwise l.Bang w rest (postfix_some w x c) (not_bang w x c)
+
+  pub exact_unary : (within : Within) (free : Bool) → claims.UnaryTree effort rec S T within free
+  exact_unary within free =
+      let not_ : ℕ → Tree → Tree = λ at x. tree.Unary at prefix.Not x in
+      exact_choose effort (seen l.Bang) (ex.unary_of S within free l.Bang not_) (ex.unary_of T within free l.Bang not_)
+      (ex.unary_of S within free l.Minus (negate within free) <|> ex.postfix S within free) (ex.unary_of T within free l.Minus (negate within free) <|> ex.postfix T within free)
+      (g.goes_operand free) (operations.unary_of effort.turns rec within free l.Bang not_)
+      (choose (seen l.Minus) (operations.unary_of effort.turns rec within free l.Minus (negate within free)) (postfix within free))
+      (weaken _ (exact_prefix within free k.Bang not_)) (weaken _ (exact_signed within free))
+      (λ w x rest c. word_heads l.Bang w c.0 c.1 rest c.2 c.3 c.4)
+      (λ w x rest d stop. other_than_bang within free w x rest d)
+
+  -- ---- an operator and its operand
+
+  module _ (within : Within) (free : Bool) where
+    -- A spaced `nil` is an operand of each level.
+    abbrev a_nil : List Token
+    a_nil = record { kind = k.Nil; span = record { first = 0; past = 0 }; spaced = true } ∷ []
+
+    abbrev nil_ended : Ended
+    nil_ended = (tree.Nil 0, l.Nil)
+
+    -- A reader of operands, which are a line L of the grammar.
+    pub record Operand (L : Line) (h : Test) (p : Reader Ended) : Type 0 where
+      exact : Exact effort Any (with_last (L S)) (with_last (L T)) h p
+      some : L S a_nil (tree.Nil 0)
+      real : forms.Real (L S)
+      pub begins : (w : List Token) (x : Tree) → L T w x → first_is (begins_or within) w ≡ true
+
+    module _ (table : TokenLook → Option Binary) (L : Line) (h : Test) (p : Reader Ended) (operand : Operand L h p) (x : Ended) where
+      abbrev behind : (Wanted → Form Tree) → Operator → Form Ended
+      behind V found = forms.operand_behind (L V) x found
+
+      abbrev node : Operator → Ended → Ended
+      node found y = (tree.Binary found.at found.operator x.0 y.0, y.1)
+
+      nil_behind : (found : Operator) → behind S found a_nil (node found nil_ended)
+      nil_behind found =
+          ([], a_nil, tt, refl, ([], [], [], refl, refl, (refl, refl)), forms.nothing_in (with_last (L S)) (node found) a_nil nil_ended (operand.some, refl))
+
+      exact_behind : (found : Operator) → Exact effort Any (behind S found) (behind T found) h (separators effort.turns >> (part p >>= λ y. pure (node found y)))
+      exact_behind found =
+          exact_bind (λ _. f.◌>>=◌ (with_last (L S)) (λ y. nothing (node found y))) (λ _. f.◌>>=◌ (with_last (L T)) (λ y. nothing (node found y))) h
+          (λ _. part p >>= λ y. pure (node found y))
+          (exact_separators effort)
+          (λ _. exact_bind (λ y. nothing (node found y)) (λ y. nothing (node found y)) h (λ y. pure (node found y)) (exact_part p operand.exact)
+          (λ y. exact_pure effort (node found y) h) (λ y. ([], node found y, (refl, refl))) (λ y b z rest d stop. rw d.0 stop))
+          (λ _. (a_nil, node found nil_ended, forms.nothing_in (with_last (L S)) (node found) a_nil nil_ended (operand.some, refl)))
+          (λ _ b z rest d stop. let n = forms.nothing_out (with_last (L T)) (node found) b z d in begins_no_line within b rest (operand.begins b n.0.0 n.1.0))
+
+      module _ (kind : TokenKind) (operator : Binary) (is : table (look_of kind) ≡ Some operator) where
+        exact_operation : Exact effort Any (ex.operation S within free table (L S) x) (ex.operation T within free table (L T) x) h (operations.operation effort.turns rec within free table p x)
+        exact_operation =
+            exact_map (ex.operation S within free table (L S) x) (ex.operation T within free table (L T) x)
+            (forms.operation_in S within free table (L S) operand.real x) (forms.operation_out T within free table (L T) (λ w y c. forms.begins_some (begins_or within) w (operand.begins w y c)) x)
+            (exact_bind (λ found. forms.guarded (o.is_name x.1 && found.sign) (behind S found)) (λ found. forms.guarded (o.is_name x.1 && found.sign) (behind T found)) h
+            (λ found. wrap found.at >> (operations.no_sign (o.is_name x.1 && found.sign) >> (separators effort.turns >> (part p >>= λ y. pure (node found y)))))
+            (exact_take effort (λ t found. operator_of t (table (look_of t.kind)) ≡ Some found) never (λ t. operator_of t (table (look_of t.kind))) (λ t found e. e) (λ t found e. e)
+            (a_token kind) (record { at = 0; operator = operator; sign = o.is_minus (look_of kind) && false }) (ap (operator_of (a_token kind)) is))
+            (λ found. exact_silent (wrap found.at) (silent_wrap found.at) _
+            (exact_guarded (forms.behind_real (L S) x operand.real found) a_nil (node found nil_ended) (nil_behind found) refl (exact_behind found) (o.is_name x.1 && found.sign)))
+            (λ found. (a_nil, node found nil_ended, forms.guard_in (o.is_name x.1 && found.sign) (behind S found) a_nil (node found nil_ended) (λ _. refl) (nil_behind found)))
+            (λ found b y rest d stop. stops_never (b ++ rest)))
+
+    -- operations of this table behind an operand, one time and again
+    module _ (table : TokenLook → Option Binary) (kind : TokenKind) (operator : Binary) (is : table (look_of kind) ≡ Some operator)
+        (L : Line) (h : Test) (apart : Apart (g.is_operator table) h) (p : Reader Ended) (operand : Operand L h p) where
+      abbrev one_more : Ended → Reader Ended
+      one_more = operations.operation effort.turns rec within free table p
+
+      pub operation_exact : (x : Ended) → Exact effort Any (ex.operation S within free table (L S) x) (ex.operation T within free table (L T) x) h (one_more x)
+      operation_exact x = exact_operation table L h p operand x kind operator is
+
+      pub operation_heads : (x : Ended) → Heads (g.is_operator table) (ex.operation T within free table (L T) x)
+      operation_heads x w y rest c =
+          let d = c.1 in
+          let t = forms.operator_out T within free table d.0 d.2 d.4 in
+          first_passes (g.is_operator table) w rest
+          (ap (passes (g.is_operator table)) (d.3 ∙ ap (λ (v : List Token). v ++ d.1) t.2) ∙ ap is_some t.3)
+
+      exact_chain : (x : Ended) → Exact effort Any (forms.chain S within free table (L S) x) (forms.chain T within free table (L T) x) (either (g.is_operator table) h)
+          (operations.operations effort.turns rec within free table p x)
+      exact_chain = exact_repeated effort (g.is_operator table) h apart (ex.operation S within free table (L S)) (ex.operation T within free table (L T)) one_more
+          (λ x. weaken _ (operation_exact x)) operation_heads
+
+      pub chain_stops : (n : ℕ) (x : Ended) (w : List Token) (y : Ended) (rest : List Token) → repeated_of n (ex.operation T within free table (L T)) x w y
+          → Stops (either (g.is_operator table) h) rest → Stops h (w ++ rest)
+      chain_stops zero x w y rest c stop = rw c.0 (stops_right (g.is_operator table) h rest stop)
+      chain_stops (suc n) x w y rest c stop =
+          let whole : w ++ rest ≡ c.0 ++ (c.1 ++ rest) = ap (λ (t : List Token). t ++ rest) c.3 ∙ append_assoc c.0 c.1 rest in
+          apart_stops (g.is_operator table) h apart (w ++ rest) (ap (passes (g.is_operator table)) whole ∙ operation_heads x c.0 c.2 (c.1 ++ rest) c.4)
+
+      exact_single : (x : Ended) → Exact effort Any (forms.at_most_one S within free table (L S) x) (forms.at_most_one T within free table (L T) x) (either (g.is_operator table) h)
+          (choose (g.is_operator table) (one_more x) (pure x))
+      exact_single x =
+          exact_choose effort (g.is_operator table) (ex.operation S within free table (L S) x) (ex.operation T within free table (L T) x) (nothing x) (nothing x)
+          (either (g.is_operator table) h) (one_more x) (pure x)
+          (weaken _ (exact_goes (either (g.is_operator table) h) (λ found spaced no. either_right _ _ no) (operation_exact x))) (weaken _ (exact_pure effort x _))
+          (operation_heads x)
+          (λ w y rest d stop. rw d.0 (stops_left (g.is_operator table) h rest stop))
+
+      pub single_stops : (x : Ended) (w : List Token) (y : Ended) (rest : List Token) → forms.at_most_one T within free table (L T) x w y
+          → Stops (either (g.is_operator table) h) rest → Stops h (w ++ rest)
+      single_stops x w y rest (inl c) stop = apart_stops (g.is_operator table) h apart (w ++ rest) (operation_heads x w y rest c)
+      single_stops x w y rest (inr c) stop = rw c.0 (stops_right (g.is_operator table) h rest stop)
+
+    -- ---- levels
+
+    abbrev pub first : Reader Ended
+    first = r.with_last (operations.unary effort.turns rec within free)
+
+    pub exact_first : Exact effort Any (with_last (ex.unary S within free)) (with_last (ex.unary T within free)) (g.goes_operand free) first
+    exact_first = exact_last (operations.unary effort.turns rec within free) (exact_unary within free) (forms.first_real S within free) (forms.first_real T within free)
+
+    pub first_operand : Operand (λ V. ex.unary V within free) (g.goes_operand free) first
+    first_operand = record {
+      exact = exact_first;
+      some = inr (inr (a_nil, [], tree.Nil 0, refl, inr (inr (inl (inl (a_nil, [], 0, refl, (_, refl, (refl, refl)), (refl, refl))))), (0, (refl, refl))));
+      real = forms.first_real S within free;
+      begins = forms.first_begins T within free;
+    }
+
+    -- a line L of the grammar as its first operand and what follows that, F, and the reader of that
+    pub record Level (L : Line) (F : Following) (h : Test) (from : Ended → Reader Ended) : Type 0 where
+      here : forms.Splits S within free (L S) (F S)
+      pub there : forms.Splits T within free (L T) (F T)
+      pub exact : (x : Ended) → Exact effort Any (F S x) (F T x) h (from x)
+      pub stops : (x : Ended) (b : List Token) (y : Ended) (rest : List Token) → F T x b y → Stops h rest → Stops (g.goes_operand free) (b ++ rest)
+
+    module _ {L : Line} {F : Following} {h : Test} {from : Ended → Reader Ended} (level : Level L F h from) where
+      pub operand_of : Operand L h (first >>= from)
+      operand_of = record {
+        exact = exact_map (with_last (L S)) (with_last (L T)) level.here.back level.there.out
+            (exact_bind (F S) (F T) h from exact_first level.exact (λ x. ([], x, level.here.none x)) level.stops);
+        some = (level.here.back a_nil nil_ended (a_nil, [], nil_ended, refl, (first_operand.some, refl), level.here.none nil_ended)).0;
+        real = forms.level_real S within free (L S) (F S) level.here;
+        begins = forms.level_begins T within free (L T) (F T) level.there;
+      }
+
+      level_above : (H : Line) (M : Following) (wide : Test) (m : Ended → Reader Ended)
+          → forms.Splits S within free (H S) (λ x. f.◌>>=◌ (F S x) (M S)) → forms.Splits T within free (H T) (λ x. f.◌>>=◌ (F T x) (M T))
+          → ((x : Ended) → M S x [] x) → ((x : Ended) → Exact effort Any (M S x) (M T x) wide (m x))
+          → ((x : Ended) (b : List Token) (y : Ended) (rest : List Token) → M T x b y → Stops wide rest → Stops h (b ++ rest))
+          → Level H (λ V x. f.◌>>=◌ (F V x) (M V)) wide (λ x. from x >>= m)
+      level_above H M wide m here there none more stops = record {
+        here = here;
+        there = there;
+        exact = λ x. exact_bind (M S) (M T) wide m (level.exact x) more (λ y. ([], y, none y)) stops;
+        stops = λ x b y rest c stop.
+            subst (Stops (g.goes_operand free)) (sym (ap (λ (t : List Token). t ++ rest) c.3 ∙ append_assoc c.0 c.1 rest))
+            (level.stops x c.0 c.2 (c.1 ++ rest) c.4 (stops c.2 c.1 y rest c.5 stop));
+      }
+
+      module _ (table : TokenLook → Option Binary) (kind : TokenKind) (operator : Binary) (is : table (look_of kind) ≡ Some operator) (apart : Apart (g.is_operator table) h) where
+        chain_above : Level (λ V. ex.operations V within free table (L V)) (λ V x. f.◌>>=◌ (F V x) (forms.chain V within free table (L V))) (either (g.is_operator table) h)
+            (λ x. from x >>= operations.operations effort.turns rec within free table (first >>= from))
+        chain_above =
+            level_above (λ V. ex.operations V within free table (L V)) (λ V. forms.chain V within free table (L V)) (either (g.is_operator table) h)
+            (operations.operations effort.turns rec within free table (first >>= from))
+            (forms.chain_above S within free table (L S) (F S) level.here) (forms.chain_above T within free table (L T) (F T) level.there)
+            (λ x. (0, (refl, refl)))
+            (exact_chain table kind operator is L h apart (first >>= from) operand_of)
+            (λ x b y rest c stop. chain_stops table kind operator is L h apart (first >>= from) operand_of c.0 x b y rest c.1 stop)
+
+        single_above : Level (λ V. ex.one_operation V within free table (L V)) (λ V x. f.◌>>=◌ (F V x) (forms.at_most_one V within free table (L V))) (either (g.is_operator table) h)
+            (λ x. from x >>= λ y. choose (g.is_operator table) (operations.operation effort.turns rec within free table (first >>= from) y) (pure y))
+        single_above =
+            level_above (λ V. ex.one_operation V within free table (L V)) (λ V. forms.at_most_one V within free table (L V)) (either (g.is_operator table) h)
+            (λ y. choose (g.is_operator table) (operations.operation effort.turns rec within free table (first >>= from) y) (pure y))
+            (forms.single_above S within free table (L S) (F S) level.here) (forms.single_above T within free table (L T) (F T) level.there)
+            (λ x. inr (refl, refl))
+            (exact_single table kind operator is L h apart (first >>= from) operand_of)
+            (single_stops table kind operator is L h apart (first >>= from) operand_of)
+
+    -- ---- each level of the grammar
+
+    pub prod_level : Level (λ V. ex.prod V within free) (λ V. forms.prod_rest V within free) (g.goes_prod free) (operations.prod_from effort.turns rec within free)
+    prod_level =
+        let L : Line = λ V. ex.unary V within free in
+        record {
+          here = forms.prod_splits S within free;
+          there = forms.prod_splits T within free;
+          exact = exact_chain o.prod_operator k.Star binary.Star refl L (g.goes_operand free) (apart_prod free) first first_operand;
+          stops = λ x b y rest c stop. chain_stops o.prod_operator k.Star binary.Star refl L (g.goes_operand free) (apart_prod free) first first_operand c.0 x b y rest c.1 stop;
+        }
+
+    pub sum_level : Level (λ V. ex.sum V within free) (λ V. forms.sum_rest V within free) (g.goes_sum free) (operations.sum_from effort.turns rec within free)
+    sum_level = chain_above prod_level o.sum_operator k.Plus binary.Plus refl (apart_sum free)
+
+    pub shift_level : Level (λ V. ex.shift V within free) (λ V. forms.shift_rest V within free) (g.goes_shift free) (operations.shift_from effort.turns rec within free)
+    shift_level = chain_above sum_level o.shift_operator k.ShiftLeft binary.ShiftLeft refl (apart_shift free)
+
+    pub cmp_level : Level (λ V. ex.cmp V within free) (λ V. forms.cmp_rest V within free) (g.goes_cmp free) (operations.cmp_from effort.turns rec within free)
+    cmp_level = single_above shift_level o.cmp_operator k.Less binary.Less refl (apart_cmp free)
+
+    pub and_level : Level (λ V. ex.and V within free) (λ V. forms.and_rest V within free) (g.goes_and free) (operations.and_from effort.turns rec within free)
+    and_level = chain_above cmp_level o.and_operator k.AndAnd binary.And refl (apart_and free)
+
+    or_level : Level (λ V. ex.or V within free) (λ V. forms.or_rest V within free) (g.goes_or free) (operations.or_from effort.turns rec within free)
+    or_level = chain_above and_level o.or_operator k.OrOr binary.Or refl (apart_or free)
+
+    abbrev pub or_tree : (Wanted → Form Tree) → Ended → Form Tree
+    or_tree V x = f.◌>>=◌ (forms.or_rest V within free x) (λ y. nothing y.0)
+
+    or_tree_exact : (x : Ended) → Exact effort Any (or_tree S x) (or_tree T x) (g.goes_or free) (operations.or_from effort.turns rec within free x >>= λ y. pure y.0)
+    or_tree_exact x = exact_bind (λ y. nothing y.0) (λ y. nothing y.0) (g.goes_or free) (λ y. pure y.0) (or_level.exact x) (λ y. exact_pure effort y.0 (g.goes_or free))
+        (λ y. ([], y.0, (refl, refl))) (λ y b z rest d stop. rw d.0 stop)
+
+    or_tree_out : (V : Wanted → Form Tree) → forms.Included (f.◌>>=◌ (with_last (ex.unary V within free)) (or_tree V)) (ex.or V within free)
+    or_tree_out V w z c =
+        let n = forms.nothing_out (f.◌>>=◌ (with_last (ex.unary V within free)) (forms.or_rest V within free)) (λ y. y.0) w z
+        (forms.bind_in (with_last (ex.unary V within free)) (forms.or_rest V within free) (λ y. nothing y.0) w z c) in
+        subst (ex.or V within free w) (sym n.2) (forms.or_joins V within free w n.0 n.1).0
+
+    pub or_tree_back : (V : Wanted → Form Tree) → forms.Included (ex.or V within free) (f.◌>>=◌ (with_last (ex.unary V within free)) (or_tree V))
+    or_tree_back V w z c =
+        forms.bind_out (with_last (ex.unary V within free)) (forms.or_rest V within free) (λ y. nothing y.0) w z
+        (forms.nothing_in (f.◌>>=◌ (with_last (ex.unary V within free)) (forms.or_rest V within free)) (λ y. y.0) w (z, last_look w) (forms.or_splits V within free w z c))
+
+  -- What follows the first operand of an `or` is read exactly.
+  pub exact_or_from : (within : Within) (free : Bool) (x : Ended)
+      → Exact effort Any (forms.or_rest S within free x) (forms.or_rest T within free x) (g.goes_or free) (operations.or_from effort.turns rec within free x)
+  exact_or_from within free x = (or_level within free).exact x
+
+  -- An operand ends where what follows it begins.
+  pub or_rest_stops : (within : Within) (free : Bool) (x : Ended) (b : List Token) (y : Ended) (rest : List Token)
+      → forms.or_rest T within free x b y → Stops (g.goes_or free) rest → Stops (g.goes_operand free) (b ++ rest)
+  or_rest_stops within free = (or_level within free).stops
+
+  pub exact_or : (within : Within) (free : Bool) → claims.OrTree effort rec S T within free
+  exact_or within free =
+      exact_map (ex.or S within free) (ex.or T within free) (or_tree_out within free S) (or_tree_back within free T)
+      (exact_bind (or_tree within free S) (or_tree within free T) (g.goes_or free) (λ x. operations.or_from effort.turns rec within free x >>= λ y. pure y.0)
+      (exact_first within free) (or_tree_exact within free)
+      (λ x. ([], x.0, forms.nothing_in (forms.or_rest S within free x) (λ y. y.0) [] x (forms.or_rest_none S within free x)))
+      (λ x b z rest d stop. let n = forms.nothing_out (forms.or_rest T within free x) (λ y. y.0) b z d in or_rest_stops within free x b n.0 rest n.1 stop))

@@ -1,0 +1,16 @@
+pub mod Goes
+pub mod Words
+pub mod Operand
+pub mod Types
+pub mod Bodies
+pub mod Primaries
+pub mod Compounds
+pub mod Links
+pub mod Operations
+pub mod Statements
+pub mod Declarations
+pub mod Descent
+pub mod Laws
+pub mod LimitLaws
+pub mod Examples
+pub mod Trees

@@ -1,0 +1,21 @@
+ghost use Rattle.cr_descent.specs.Laws.{AtMostOneTree, FaultsAreFirst, FoundIsLongest, SpelledIsFound};
+
+/// One list of tokens spells at most one tree, whatever construct is wanted.
+pub fn one_tree()
+    ensures { AtMostOneTree }
+{}
+
+/// A reader refuses at the first token with which the tokens so far begin no spelled list.
+pub fn first_unexpected()
+    ensures { FaultsAreFirst }
+{}
+
+/// What a reader finds is spelled by the tokens that it read, and by no longer front of them is anything spelled.
+pub fn longest_front()
+    ensures { FoundIsLongest }
+{}
+
+/// A spelled list is found whole, where no limit stops the reader.
+pub fn spelled_is_found()
+    ensures { SpelledIsFound }
+{}
