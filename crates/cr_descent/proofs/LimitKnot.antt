@@ -19,7 +19,7 @@ use Rattle.cr_exact.proofs.LimitParts.{known_is, rises_beside}
 use Rattle.cr_exact.proofs.Nodes.{exact_beside}
 use Rattle.cr_descent.specs.Goes as g
 use Rattle.cr_descent.specs.Descent.{reader, read, list_of}
-use Rattle.cr_descent.specs.LimitLaws.{IsLimited, height_with, FoundIsCounted, TooDeepHasNoWay, TooManyHasNoWay}
+use Rattle.cr_descent.specs.LimitLaws.{BeginsLimited, IsLimited, height_with, FoundIsCounted, TooDeepHasNoWay, TooManyHasNoWay}
 use Rattle.cr_descent.proofs.Claims as claims
 use Rattle.cr_descent.proofs.LimitClaims as limits
 use Rattle.cr_descent.proofs.LimitTypes.{counts_written}
@@ -134,6 +134,9 @@ counted (Unary within free) s is = record { limited = is.limited; shallow = omeg
 counted (Or within free) s is = record { limited = is.limited; shallow = omega (arith, is.nested); nodes = refl; few = is.few; high = tt }
 counted (Simple within) s is = record { limited = is.limited; shallow = omega (arith, is.nested); nodes = refl; few = is.few; high = tt }
 counted (Stmt within) s is = record { limited = is.limited; shallow = omega (arith, is.nested); nodes = refl; few = is.few; high = tt }
+
+pub new_cursor_is_limited : BeginsLimited
+new_cursor_is_limited list = record { limited = refl; some = omega arith; nested = omega arith; few = omega arith }
 
 pub found_is_counted : FoundIsCounted
 found_is_counted turns n v s s' x is e =

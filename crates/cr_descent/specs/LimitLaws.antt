@@ -9,6 +9,7 @@ use Rattle.cr_grammar.specs.Grammar.{Spells}
 use Rattle.cr_exact.specs.declared.fault.ParseFault.TheVariants.{TooDeep, TooManyNodes}
 use Rattle.cr_exact.specs.Reader.{State, Found, Failed, max_nesting, max_nodes}
 use Rattle.cr_exact.specs.Exact.{head}
+use Rattle.cr_exact.specs.Cursor.{start_of}
 use Rattle.cr_exact.specs.Limits.{last_place}
 use Rattle.cr_descent.specs.Descent.{read}
 
@@ -18,6 +19,10 @@ pub record IsLimited (s : State) : Type 0 where
   pub some : 0 < s.height
   pub nested : s.depth + s.height ≤ max_nesting
   pub few : s.nodes ≤ max_nodes
+
+-- Before all tokens the state is within the limits.
+abbrev pub BeginsLimited : Type 0
+BeginsLimited = (list : List Token) → IsLimited (start_of list)
 
 -- How high the tree is that was read last: a clause of `select` is a part of the node that was begun last, lists of statements stand
 -- beside what was read last, and anything else is a tree of its own.

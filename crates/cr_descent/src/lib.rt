@@ -20,4 +20,6 @@ pub use examples::{
     words_are_refused_out_of_place,
 };
 pub use laws::{first_unexpected, longest_front, one_tree, spelled_is_found};
-pub use limits::{found_is_counted, too_deep_has_no_way, too_many_has_no_way};
+pub use limits::{
+    found_is_counted, new_cursor_is_limited, too_deep_has_no_way, too_many_has_no_way,
+};

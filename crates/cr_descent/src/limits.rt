@@ -1,4 +1,9 @@
-ghost use Rattle.cr_descent.specs.LimitLaws.{FoundIsCounted, TooDeepHasNoWay, TooManyHasNoWay};
+ghost use Rattle.cr_descent.specs.LimitLaws.{BeginsLimited, FoundIsCounted, TooDeepHasNoWay, TooManyHasNoWay};
+
+/// A new cursor is within the limits, of which the laws below speak.
+pub fn new_cursor_is_limited()
+    ensures { BeginsLimited }
+{}
 
 /// What a reader finds within the limits has the nodes that it counts, and nests as deep as it counts.
 pub fn found_is_counted()

@@ -16,7 +16,7 @@ abbrev pub state_of : Cursor → State
 state_of c = record { before = before_at c.at c.list.now; rest = drop c.at c.list.now; depth = c.depth; nodes = c.nodes; height = c.height; limited = true }
 
 abbrev pub start_of : List Token → State
-start_of list = record { before = Newline; rest = list; depth = 0; nodes = 0; height = 0; limited = true }
+start_of list = record { before = Newline; rest = list; depth = 0; nodes = 0; height = 1; limited = true }
 
 -- the first of these tokens, or none where there are none
 abbrev pub IsFirst : Option (Bor Token) → List Token → Type 0

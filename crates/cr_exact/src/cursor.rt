@@ -26,7 +26,7 @@ pub struct Cursor<'t> {
     pub depth: u32,
     /// How many nodes there are so far.
     pub nodes: u32,
-    /// How high the node is that was read last.
+    /// How high the node is that was read last. At the start it is 1, as if there were one without parts.
     pub height: u32,
     /// What surrounds the place.
     pub within: Within,
@@ -49,7 +49,7 @@ impl<'t> Cursor<'t> {
             at: 0,
             depth: 0,
             nodes: 0,
-            height: 0,
+            height: 1,
             within,
         }
     }

@@ -74,6 +74,7 @@ fn only_the_wanted_token_is_taken(rt: HostRuntime) -> Result<(), Fail> {
 fn nodes_stand_on_one_another(rt: HostRuntime) -> Result<(), Fail> {
     let list = begun();
     let mut cursor = Cursor::new(&list, TOP);
+    assert_eq!(rt; (cursor.height, cursor.nodes), (1, 0));
     assert_eq!(rt; cursor.grow(0), Ok(()));
     let height = cursor.enter();
     assert_eq!(rt; (height, cursor.depth), (1, 1));
