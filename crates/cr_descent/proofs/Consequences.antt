@@ -11,7 +11,7 @@ use Rattle.cr_exact.specs.declared.fault.ParseFault.TheVariants.{Unexpected}
 use Rattle.cr_exact.specs.Reader.{State, Outcome, Found, Failed}
 use Rattle.cr_exact.specs.Exact.{at, head, last_from, Ends, Enough}
 use Rattle.cr_descent.specs.Descent.{read}
-use Rattle.cr_descent.specs.Laws.{AtMostOneTree, FaultsAreFirst, FoundIsLongest, SpelledIsFound}
+use Rattle.cr_descent.specs.Laws.{effort_of, AtMostOneTree, FaultsAreFirst, FoundIsLongest, SpelledIsFound}
 use Rattle.cr_descent.proofs.Knot as knot
 
 -- before all tokens, without limits
@@ -42,7 +42,7 @@ short_end o y x m t u enough before limited is rest e =
     cc
 
 all_of : (wanted : Wanted) (turns n m : ℕ) (w : List Token) (x : Tree) (s : State) → Spells_in m wanted w x → s.rest ≡ w
-    → Ends (Enough (knot.effort_of turns n m) s) (read turns n wanted s) x (last_from s.before w) [] s.limited
+    → Ends (Enough (effort_of turns n m) s) (read turns n wanted s) x (last_from s.before w) [] s.limited
 all_of wanted turns n m w x s c e = (knot.exact_read turns n m wanted).complete w x s [] tt c (e ∙ sym (append-nil w)) refl
 
 pub one_tree : AtMostOneTree

@@ -27,6 +27,7 @@ use Rattle.cr_exact.proofs.Tokens.{a_token}
 use Rattle.cr_exact.proofs.Nodes.{exact_beside}
 use Rattle.cr_descent.specs.Goes as g
 use Rattle.cr_descent.specs.Descent.{reader, read}
+use Rattle.cr_descent.specs.Laws.{effort_of, ReadersAreExact}
 use Rattle.cr_descent.proofs.Begins.{spelled_nothing, follows_nothing}
 use Rattle.cr_descent.proofs.Bodies.{exact_statements}
 use Rattle.cr_descent.proofs.Apart.{apart, postfix_begins}
@@ -213,9 +214,6 @@ or_settled (suc m) within w x c =
     let d = (or_level (Spells_in m) within false).out w (x, last_look w) (c, refl) in
     subst Settled (sym d.3) (settled_front d.0 d.1 (unary_settled m within d.0 d.2.0 d.4.0))
 
-abbrev pub effort_of : ℕ → ℕ → ℕ → Effort
-effort_of turns n m = record { deep = m ≤ n; turns = turns }
-
 -- what is known of the constructs of one depth
 pub given_of : (turns n m : ℕ) → ((v : Wanted) → Exact (effort_of turns n m) Any (Spells_in (suc (suc n)) v) (Spells_in m v) (g.goes_of v) (read turns n v))
     → claims.Given (effort_of turns n m) (read turns n) (Spells_in (suc (suc n))) (Spells_in m)
@@ -269,7 +267,7 @@ exact_none turns m v = record {
 deeper : (turns n m : ℕ) (s : State) → Enough (effort_of turns (suc n) (suc m)) s → Enough (effort_of turns n m) s
 deeper turns n m s en = (omega (arith, en.0), en.1, en.2)
 
-pub exact_read : (turns n m : ℕ) (v : Wanted) → Exact (effort_of turns n m) Any (Spells_in (suc (suc n)) v) (Spells_in m v) (g.goes_of v) (read turns n v)
+pub exact_read : ReadersAreExact
 unfolding read
 exact_read turns zero m v = exact_none turns m v
 exact_read turns (suc n) zero v =

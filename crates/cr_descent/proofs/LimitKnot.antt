@@ -19,7 +19,8 @@ use Rattle.cr_exact.proofs.LimitParts.{known_is, rises_beside}
 use Rattle.cr_exact.proofs.Nodes.{exact_beside}
 use Rattle.cr_descent.specs.Goes as g
 use Rattle.cr_descent.specs.Descent.{reader, read, list_of}
-use Rattle.cr_descent.specs.LimitLaws.{BeginsLimited, IsLimited, height_with, FoundIsCounted, TooDeepHasNoWay, TooManyHasNoWay}
+use Rattle.cr_descent.specs.Laws.{effort_of}
+use Rattle.cr_descent.specs.LimitLaws.{counted_before, counted_behind, ReadersCount, BeginsLimited, IsLimited, height_with, FoundIsCounted, TooDeepHasNoWay, TooManyHasNoWay}
 use Rattle.cr_descent.proofs.Claims as claims
 use Rattle.cr_descent.proofs.LimitClaims as limits
 use Rattle.cr_descent.proofs.LimitTypes.{counts_written}
@@ -30,24 +31,14 @@ use Rattle.cr_descent.proofs.LimitLinks.{counts_when}
 use Rattle.cr_descent.proofs.LimitOperations.{counts_unary, counts_or}
 use Rattle.cr_descent.proofs.LimitSimple.{counts_simple, counts_stmt}
 use Rattle.cr_descent.proofs.LimitDeclarations.{counts_program}
-use Rattle.cr_descent.proofs.Knot.{effort_of, given_of, exact_read, or_settled, signed, nil_or}
+use Rattle.cr_descent.proofs.Knot.{given_of, exact_read, or_settled, signed, nil_or}
 use Rattle.cr_descent.proofs.Apart.{apart}
 use Rattle.cr_descent.proofs.Commands.{spaced_nil}
 
--- what is counted before a construct: nothing is known of the height that a tree of its own begins with
-abbrev before : Wanted → ℕ → ℕ → Tally
-before (When within free) n height = known n height
-before (Stmts within) n height = known n height
-before Program n height = known n height
-before other n height = unknown n
-
-abbrev behind : Wanted → ℕ → ℕ → Tree → Tally
-behind wanted n height x = known (n + nodes x) (height_with wanted height x)
-
 abbrev CountsOf : Wanted → Form Tree → Reader Tree → Type 0
-CountsOf wanted C p = (n height : ℕ) → Counts Any C (g.goes_of wanted) (before wanted n height) (behind wanted n height) p
+CountsOf wanted C p = (n height : ℕ) → Counts Any C (g.goes_of wanted) (counted_before wanted n height) (counted_behind wanted n height) p
 
-more : (wanted : Wanted) (n height : ℕ) (x : Tree) → AtMost (before wanted n height) (behind wanted n height x)
+more : (wanted : Wanted) (n height : ℕ) (x : Tree) → AtMost (counted_before wanted n height) (counted_behind wanted n height x)
 more (Written with_arguments) n height x = (omega arith, omega arith)
 more (When within free) n height x = (omega arith, omega arith)
 more (Unary within free) n height x = (omega arith, omega arith)
@@ -77,11 +68,11 @@ statements_nest list = grind (arith, the_lemmas)
 counts_list : (effort : Effort) (rec : Wanted → Reader Tree) (S T : Wanted → Form Tree) (given : claims.Given effort rec S T) (counts : limits.GivenCounts rec T) (within : Within)
     → CountsOf (Stmts within) (gr.rule T (Stmts within)) (list_of effort.turns rec within)
 counts_list effort rec S T given counts within n height =
-    counts_bind_quiet (λ list. nothing (tree.Statements list)) g.goes_body (λ list. pure (tree.Statements list)) (behind (Stmts within) n height)
+    counts_bind_quiet (λ list. nothing (tree.Statements list)) g.goes_body (λ list. pure (tree.Statements list)) (counted_behind (Stmts within) n height)
     (rises_stmts effort (S (Stmt within)) (T (Stmt within)) (g.begins_line within) g.goes_stmt (beside (rec (Stmt within))) (exact_beside _ (given.exact (Stmt within)))
     (bodies.stmt_heads effort rec S T given within) (λ spaced. refl) (λ spaced. refl) g.goes_body (bodies.body_ends within)
     nodes nesting (rises_beside nodes nesting (counts.stmt within)) n height)
-    (λ list. counts_pure (tree.Statements list) g.goes_body _ (behind (Stmts within) n height)
+    (λ list. counts_pure (tree.Statements list) g.goes_body _ (counted_behind (Stmts within) n height)
     (known_is _ _ _ _ (let a = statements_are list in omega (arith, a)) (let a = statements_nest list in omega (arith, a))))
     (λ list. (still_pure (tree.Statements list)).lets)
     (λ list. follows_nothing g.goes_body g.goes_body (tree.Statements list) (λ look spaced e. e))
@@ -111,7 +102,7 @@ level turns n m counts v =
     let other = given_of turns n 2 (exact_read turns n 2) in
     by_wanted turns n m counts given other v
 
-pub counts_read : (turns n m : ℕ) (v : Wanted) → CountsOf v (Spells_in m v) (read turns n v)
+pub counts_read : ReadersCount
 unfolding read
 counts_read turns zero m v a height = record {
   same = λ x y e pre. tt;
@@ -125,7 +116,7 @@ counts_read turns (suc n) (suc m) v a height = level turns n m (given_counts (re
 
 -- ---- what it comes to
 
-counted : (v : Wanted) (s : State) → IsLimited s → Counted (before v s.nodes s.height) s
+counted : (v : Wanted) (s : State) → IsLimited s → Counted (counted_before v s.nodes s.height) s
 counted (When within free) s is = record { limited = is.limited; shallow = omega (arith, is.nested); nodes = refl; few = is.few; high = (refl, is.some, is.nested) }
 counted (Stmts within) s is = record { limited = is.limited; shallow = omega (arith, is.nested); nodes = refl; few = is.few; high = (refl, is.some, is.nested) }
 counted Program s is = record { limited = is.limited; shallow = omega (arith, is.nested); nodes = refl; few = is.few; high = (refl, is.some, is.nested) }

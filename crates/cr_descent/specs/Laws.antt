@@ -1,13 +1,23 @@
 -- What holds of the grammar and its readers: one tree at most, the first unexpected token, the longest front.
-use Rattle.std.specs.Prelude.{◌≡◌, ◌≤◌, ◌<◌, ℕ, false, List, [], ◌++◌, length}
+use Rattle.std.specs.Prelude.{◌≡◌, ◌≤◌, ◌<◌, ℕ, suc, false, List, [], ◌++◌, length}
 use Rattle.cr_syntax.specs.declared.token.Token.{Token}
 use Rattle.cr_grammar.specs.declared.tree.Tree.{Tree}
 use Rattle.cr_grammar.specs.Wanted.{Wanted}
-use Rattle.cr_grammar.specs.Grammar.{Spells}
+use Rattle.cr_grammar.specs.Grammar.{Spells, Spells_in}
 use Rattle.cr_exact.specs.declared.fault.ParseFault.TheVariants.{Unexpected}
 use Rattle.cr_exact.specs.Reader.{State, Found, Failed, place_at}
-use Rattle.cr_exact.specs.Exact.{head}
+use Rattle.cr_exact.specs.Exact.{head, Effort, Exact, Any}
+use Rattle.cr_descent.specs.Goes.{goes_of}
 use Rattle.cr_descent.specs.Descent.{read}
+
+-- what a reader of so many turns and so deep has to go on for what is spelled with so many constructs in one another
+abbrev pub effort_of : ℕ → ℕ → ℕ → Effort
+effort_of turns n m = record { deep = m ≤ n; turns = turns }
+
+-- Each reader is exact for its construct: what it finds is spelled, where it refuses nothing spelled goes on, and it finds all that is
+-- spelled, if its depth and its turns are enough.
+abbrev pub ReadersAreExact : Type 0
+ReadersAreExact = (turns n m : ℕ) (wanted : Wanted) → Exact (effort_of turns n m) Any (Spells_in (suc (suc n)) wanted) (Spells_in m wanted) (goes_of wanted) (read turns n wanted)
 
 -- One list of tokens spells at most one tree.
 abbrev pub AtMostOneTree : Type 0

@@ -5,12 +5,13 @@ use Rattle.cr_syntax.specs.declared.token.Token.{Token}
 use Rattle.cr_grammar.specs.declared.tree.Tree.{Tree}
 use Rattle.cr_grammar.specs.Count.{nodes, nesting}
 use Rattle.cr_grammar.specs.Wanted.{Wanted, When, Stmts, Program}
-use Rattle.cr_grammar.specs.Grammar.{Spells}
+use Rattle.cr_grammar.specs.Grammar.{Spells, Spells_in}
 use Rattle.cr_exact.specs.declared.fault.ParseFault.TheVariants.{TooDeep, TooManyNodes}
 use Rattle.cr_exact.specs.Reader.{State, Found, Failed, max_nesting, max_nodes}
-use Rattle.cr_exact.specs.Exact.{head}
+use Rattle.cr_exact.specs.Exact.{head, Any}
 use Rattle.cr_exact.specs.Cursor.{start_of}
-use Rattle.cr_exact.specs.Limits.{last_place}
+use Rattle.cr_exact.specs.Limits.{Tally, known, unknown, Counts, last_place}
+use Rattle.cr_descent.specs.Goes.{goes_of}
 use Rattle.cr_descent.specs.Descent.{read}
 
 -- Nesting and nodes have a limit, and the state is within it, with the node that was begun or read last.
@@ -31,6 +32,22 @@ height_with (When within free) height x = max height (nesting x + 1)
 height_with (Stmts within) height x = max height (nesting x)
 height_with Program height x = max height (nesting x)
 height_with other height x = nesting x
+
+-- what is counted before a construct: of one that is a tree of its own nothing need be known of the height
+abbrev pub counted_before : Wanted → ℕ → ℕ → Tally
+counted_before (When within free) n height = known n height
+counted_before (Stmts within) n height = known n height
+counted_before Program n height = known n height
+counted_before other n height = unknown n
+
+-- and behind it
+abbrev pub counted_behind : Wanted → ℕ → ℕ → Tree → Tally
+counted_behind wanted n height x = known (n + nodes x) (height_with wanted height x)
+
+-- Each reader counts the nodes and the nesting of its construct.
+abbrev pub ReadersCount : Type 0
+ReadersCount = (turns n m : ℕ) (wanted : Wanted) (before height : ℕ)
+    → Counts Any (Spells_in m wanted) (goes_of wanted) (counted_before wanted before height) (counted_behind wanted before height) (read turns n wanted)
 
 -- These nodes are counted, and the tree nests no deeper than allowed.
 pub record IsCounted (wanted : Wanted) (s s' : State) (x : Tree) : Type 0 where

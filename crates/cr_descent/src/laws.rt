@@ -1,4 +1,9 @@
-ghost use Rattle.cr_descent.specs.Laws.{AtMostOneTree, FaultsAreFirst, FoundIsLongest, SpelledIsFound};
+ghost use Rattle.cr_descent.specs.Laws.{AtMostOneTree, FaultsAreFirst, FoundIsLongest, ReadersAreExact, SpelledIsFound};
+
+/// Each reader is exact for its construct. The other laws follow from this one.
+pub fn each_reader_is_exact()
+    ensures { ReadersAreExact }
+{}
 
 /// One list of tokens spells at most one tree, whatever construct is wanted.
 pub fn one_tree()

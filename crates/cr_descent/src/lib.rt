@@ -19,7 +19,8 @@ pub use examples::{
     values_are_subtracted, whole_program_is_spelled, words_are_refused_in_other_scopes,
     words_are_refused_out_of_place,
 };
-pub use laws::{first_unexpected, longest_front, one_tree, spelled_is_found};
+pub use laws::{each_reader_is_exact, first_unexpected, longest_front, one_tree, spelled_is_found};
 pub use limits::{
-    found_is_counted, new_cursor_is_limited, too_deep_has_no_way, too_many_has_no_way,
+    each_reader_counts, found_is_counted, new_cursor_is_limited, too_deep_has_no_way,
+    too_many_has_no_way,
 };

@@ -1,4 +1,9 @@
-ghost use Rattle.cr_descent.specs.LimitLaws.{BeginsLimited, FoundIsCounted, TooDeepHasNoWay, TooManyHasNoWay};
+ghost use Rattle.cr_descent.specs.LimitLaws.{BeginsLimited, FoundIsCounted, ReadersCount, TooDeepHasNoWay, TooManyHasNoWay};
+
+/// Each reader counts the nodes and the nesting of its construct. The laws below follow from this one.
+pub fn each_reader_counts()
+    ensures { ReadersCount }
+{}
 
 /// A new cursor is within the limits, of which the laws below speak.
 pub fn new_cursor_is_limited()
