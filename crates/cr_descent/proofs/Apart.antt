@@ -13,7 +13,8 @@ use Rattle.cr_grammar.specs.Wanted.{Wanted, in_object}
 use Rattle.cr_grammar.specs.Laws.{first_is}
 use Rattle.cr_grammar.specs.Expressions as ex
 use Rattle.cr_descent.specs.Operand.{Operand, Field, Element, Variable, Yielding, Above, Passing, Whole, whole, named, linked, indexed, yielded, above}
-use Rattle.cr_descent.proofs.Begins.{led_at}
+use Rattle.cr_exact.proofs.Forms.{made_in, all_read}
+use Rattle.cr_exact.proofs.Heads.{led_at, led_kind}
 use Rattle.cr_descent.proofs.Operands as operands
 use Rattle.cr_descent.proofs.PostfixForms as postfix
 use Rattle.cr_descent.proofs.StatementForms as forms
@@ -149,14 +150,14 @@ module _ (S : Wanted → Form Tree) (within : Within) where
   variable_out w name p =
       let (is, (a, b, found, e, r, (none, same))) = head_out w (Variable name) p refl refl refl in
       let name_is : name ≡ found = cc in
-      (is, subst (λ t. instance_variable t name) (sym (postfix.all_read w a b e none)) (subst (λ y. instance_variable a y) (sym name_is) r))
+      (is, subst (λ t. instance_variable t name) (sym (all_read w a b e none)) (subst (λ y. instance_variable a y) (sym name_is) r))
 
   variable_back : (w : List Token) (name : Word) → where_true (in_object within) instance_variable w name → P w (Variable name)
   variable_back w name (is, r) =
       head_alone w (Variable name) (
         l.InstanceVariable,
-        postfix.led_kind (k.InstanceVariable name.text) w w [] r.0 (sym (append-nil w)) r.1 r.2.0,
-        (is, postfix.made_back instance_variable (λ y. Variable y) w name r),
+        led_kind (k.InstanceVariable name.text) w w [] r.0 (sym (append-nil w)) r.1 r.2.0,
+        (is, made_in instance_variable (λ y. Variable y) w name r),
       )
 
   -- ---- `yield` and `super` alone
@@ -167,8 +168,8 @@ module _ (S : Wanted → Form Tree) (within : Within) where
   bare_word look make w o at tells (a, b, place, e, r, (a', b', arguments, e', m, (none, same))) =
       let is = tells place arguments same in
       let no_arguments : a' ≡ [] = subst (λ v. operands.arguments S within true a' v) is.1 m in
-      let empty : b ≡ [] = postfix.all_read b a' b' e' none ∙ no_arguments in
-      subst (λ t. word look t at) (sym (postfix.all_read w a b e empty)) (subst (λ v. word look a v) (sym is.0) r)
+      let empty : b ≡ [] = all_read b a' b' e' none ∙ no_arguments in
+      subst (λ t. word look t at) (sym (all_read w a b e empty)) (subst (λ v. word look a v) (sym is.0) r)
 
   word_bare : (look : TokenLook) (make : ℕ → Option (List Tree) → Operand) (w : List Token) (at : ℕ) → word look w at → operands.passed_on S within true look make w (make at None)
   word_bare _ make w at r = (w, [], at, sym (append-nil w), r, ([], [], None, refl, refl, (refl, refl)))
@@ -215,13 +216,13 @@ module _ (S : Wanted → Form Tree) (within : Within) where
   element_last w u v z at x xs e d (a, b, found, e', r, (a', b', question, e2, m, (none, same))) =
       let is = bare_indexed at x xs found.0 (whole z) found.1 question same in
       let no_question : a' ≡ [] = subst (λ q. maybe (tight (word l.Question)) a' q) is.3 m in
-      let empty : b ≡ [] = postfix.all_read b a' b' e2 none ∙ no_question in
+      let empty : b ≡ [] = all_read b a' b' e2 none ∙ no_question in
       let indices : ex.indices S within true a (at, xs) = subst (λ n. ex.indices S within true a (n, xs)) (sym is.0) (subst (λ ys. ex.indices S within true a (found.0, ys)) (sym is.2) r) in (
         u,
         v,
         e,
         subst (λ y. ex.postfix S within true u y) (sym is.1) (postfix.postfix_tree S within true u z d),
-        subst (λ t. ex.indices S within true t (at, xs)) (sym (postfix.all_read v a b e' empty)) indices,
+        subst (λ t. ex.indices S within true t (at, xs)) (sym (all_read v a b e' empty)) indices,
       )
 
   element_out : (w : List Token) (at : ℕ) (x : Tree) (xs : List Tree) → P w (Element at x xs) → Indexed w at x xs

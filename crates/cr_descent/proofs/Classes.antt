@@ -1,5 +1,5 @@
 -- `A.new` and `Fiber.yield` are read exactly.
-use Rattle.std.proofs.Common.{◌≡◌, ℕ, Bool, true, false, ◌&&◌, List, [], ◌∷◌, ◌++◌, map, Option, Some, None, inl, inr, refl, sym, ap, subst, ◌∙◌}
+use Rattle.std.proofs.Common.{◌≡◌, ℕ, Bool, true, false, List, [], ◌∷◌, ◌++◌, map, Option, Some, None, inl, inr, refl, sym, ap, subst, ◌∙◌}
 use Rattle.std.specs.Prelude.{is_some}
 use Rattle.std.proofs.lemmas.List.{append-nil}
 use Rattle.std.proofs.lemmas.Slice.Eq.{bytes_eq-Decides}
@@ -16,26 +16,26 @@ use Rattle.cr_grammar.specs.Forms as f
 use Rattle.cr_grammar.specs.Operators as o
 use Rattle.cr_grammar.specs.Wanted.{Wanted}
 use Rattle.cr_grammar.specs.Expressions as ex
-use Rattle.cr_exact.specs.Reader.{Reader, Test, same_look, tight_seen, never, allow, by_look, wrap, pure, ◌>>=◌}
+use Rattle.cr_exact.specs.Reader.{Reader, Test, tight_seen, never, by_look, wrap, pure, ◌>>=◌}
 use Rattle.cr_exact.specs.Exact.{Effort, Exact, Any}
-use Rattle.cr_exact.proofs.Sequence.{exact_bind, exact_pure, exact_map, weaken}
-use Rattle.cr_exact.proofs.Tokens.{Looks, Branch, by_first, a_token, clash, exact_word, exact_by}
-use Rattle.cr_exact.proofs.Nodes.{exact_silent, silent_wrap}
 use Rattle.cr_descent.specs.Goes.{goes_type, goes_primary}
 use Rattle.cr_descent.specs.Bodies as bodies
 use Rattle.cr_descent.specs.Primaries as primaries
+use Rattle.cr_exact.proofs.TokenTests.{clash, both_true}
+use Rattle.cr_exact.proofs.Sequence.{exact_bind, exact_pure, exact_map, weaken}
+use Rattle.cr_exact.proofs.Tokens.{Looks, Branch, by_first, a_token, exact_word, exact_by, branch_where}
+use Rattle.cr_exact.proofs.Forms.{spelled_nothing, spelled_word, Spelled, spelled_bind, all_read, spelled_stmts}
+use Rattle.cr_exact.proofs.Heads.{led, Halts, led_at}
+use Rattle.cr_exact.proofs.Follows.{follows_bind, follows_led, follows_never, Follows, follows_nothing}
+use Rattle.cr_exact.proofs.Nodes.{exact_silent, silent_wrap}
 use Rattle.cr_descent.proofs.Words.{exact_exactly_ident}
-use Rattle.cr_descent.proofs.Begins as b
 use Rattle.cr_descent.proofs.Operands as operands
 use Rattle.cr_descent.proofs.Claims as claims
 use Rattle.cr_descent.proofs.Types.{exact_atom}
-use Rattle.cr_descent.proofs.Bodies.{exact_plain, exact_arguments}
+use Rattle.cr_descent.proofs.Bodies.{exact_plain, exact_arguments, no_parenthesis, parenthesis_less}
+use Rattle.cr_descent.proofs.PostfixForms.{arguments_list, list_arguments}
 
 -- ---- paths
-
-both_true : (x y : Bool) → x && y ≡ true → (x ≡ true) × (y ≡ true)
-both_true true y e = (refl, e)
-both_true false y e = absurd cc
 
 pub path_is : (xs ys : List (List ℕ)) → primaries.is_path xs ys ≡ true → xs ≡ ys
 path_is [] [] e = refl
@@ -61,11 +61,8 @@ bare_is (x ∷ xs) question e = absurd cc
 
 -- ---- what is empty
 
-all_of_it : (w a rest : List Token) → w ≡ a ++ rest → rest ≡ [] → w ≡ a
-all_of_it w a rest e none = e ∙ ap (λ (t : List Token). a ++ t) none ∙ append-nil a
-
 none_of_it : (w a rest : List Token) → w ≡ a ++ rest → a ≡ [] → rest ≡ [] → w ≡ []
-none_of_it w a rest e first none = all_of_it w a rest e none ∙ first
+none_of_it w a rest e first none = all_read w a rest e none ∙ first
 
 no_names : (more : List Word) → map (λ (x : Word). x.text) more ≡ [] → more ≡ []
 no_names [] e = refl
@@ -81,13 +78,6 @@ list_real R w xs c e =
 
 -- ---- where a condition holds that has nothing to do with the tokens
 
-pub branch_where : {effort : Effort} {A : Type 0} (look : TokenLook) (c : Bool) (R C : Form A) (g : Test) (p : Reader A)
-    → (c ≡ true → Exact effort (Looks look) R C g p) → Branch effort look R (f.where_true c C) g (allow c p)
-branch_where _ true R C g p e =
-    let ep = e refl in
-    inl (record { found = ep.found; refused = ep.refused; complete = λ w x s rest pre c. ep.complete w x s rest pre c.1 })
-branch_where _ false R C g p e = inr (refl, λ w x led c. clash refl c.0)
-
 module _ (effort : Effort) (rec : Wanted → Reader Tree) (S T : Wanted → Form Tree) (given : claims.Given effort rec S T) (within : Within) (free : Bool) where
   abbrev goes : Test
   goes = goes_primary free
@@ -97,17 +87,14 @@ module _ (effort : Effort) (rec : Wanted → Reader Tree) (S T : Wanted → Form
   abbrev block_of : List Tree → Option Tree
   block_of body = Some (tree.Block [] body)
 
-  body_some : (Q : Wanted → Form Tree) (around : Within) → b.Spelled (ex.body Q around)
-  body_some Q around = b.spelled_bind b.spelled_seps (λ _. b.spelled_bind (b.spelled_none _) (λ xs. b.spelled_bind b.spelled_seps (λ _. b.spelled_nothing xs)))
-
-  pub plain_some : b.Spelled (ex.plain S within free)
+  pub plain_some : Spelled (ex.plain S within free)
   plain_some =
-      let r = b.spelled_bind (b.spelled_word k.OpenBrace) (λ _. b.spelled_bind (body_some S _) (λ body. b.spelled_bind (b.spelled_word k.CloseBrace) (λ _. b.spelled_nothing body))) in
+      let r = spelled_bind (spelled_word k.OpenBrace) (λ _. spelled_bind (spelled_stmts _) (λ body. spelled_bind (spelled_word k.CloseBrace) (λ _. spelled_nothing body))) in
       (r.0, r.1, inl r.2)
 
   block_out : (path : List (List ℕ)) → path ≡ o.isolated_path → (w : List Token) (x : Option Tree)
       → f.◌>>=◌ (ex.plain S within free) (λ body. f.nothing (block_of body)) w x → ex.new_block S within free path w x
-  block_out path is w x c = inl (is, c.2, subst (λ (t : List Token). ex.plain S within free t c.2) (sym (all_of_it w c.0 c.1 c.3 c.5.0)) c.4, c.5.1)
+  block_out path is w x c = inl (is, c.2, subst (λ (t : List Token). ex.plain S within free t c.2) (sym (all_read w c.0 c.1 c.3 c.5.0)) c.4, c.5.1)
 
   pub block_back : (path : List (List ℕ)) → path ≡ o.isolated_path → (w : List Token) (x : Option Tree)
       → ex.new_block T within free path w x → f.◌>>=◌ (ex.plain T within free) (λ body. f.nothing (block_of body)) w x
@@ -124,41 +111,39 @@ module _ (effort : Effort) (rec : Wanted → Reader Tree) (S T : Wanted → Form
       exact_map (ex.new_block S within free path) (ex.new_block T within free path) (block_out path (path_is _ _ is)) (block_back path (path_is _ _ is))
       (exact_bind (λ body. f.nothing (block_of body)) (λ body. f.nothing (block_of body)) never _ (exact_plain effort rec S T given within free)
       (λ body. exact_pure effort (block_of body) never)
-      (λ body. b.spelled_nothing (block_of body))
-      (λ body. b.follows_never (f.nothing (block_of body)) never))
+      (λ body. spelled_nothing (block_of body))
+      (λ body. follows_never (f.nothing (block_of body)) never))
   block_by path false is =
       let other : path ≡ o.isolated_path → ⊥ = λ same. clash is (path_same _ _ same) in
       exact_map (ex.new_block S within free path) (ex.new_block T within free path) (λ w x c. inr (other, c)) (no_block path other) (exact_pure effort None never)
 
-  block_some_by : (path : List (List ℕ)) (flag : Bool) → primaries.is_path path o.isolated_path ≡ flag → b.Spelled (ex.new_block S within free path)
+  block_some_by : (path : List (List ℕ)) (flag : Bool) → primaries.is_path path o.isolated_path ≡ flag → Spelled (ex.new_block S within free path)
   block_some_by path true is = (plain_some.0, block_of plain_some.1, inl (path_is _ _ is, plain_some.1, plain_some.2, refl))
   block_some_by path false is = ([], None, inr (λ same. clash is (path_same _ _ same), (refl, refl)))
 
-  block_some : (path : List (List ℕ)) → b.Spelled (ex.new_block S within free path)
+  block_some : (path : List (List ℕ)) → Spelled (ex.new_block S within free path)
   block_some path = block_some_by path _ refl
 
   -- A block begins with no parenthesis.
-  plain_stops : b.Ahead (tight_seen l.OpenParenthesis) (ex.plain T within free)
-  unfolding same_look
-  plain_stops w body rest (inl p) = b.led_stops l.OpenBrace (tight_seen l.OpenParenthesis) (b.not_tight_seen l.OpenBrace l.OpenParenthesis refl) w rest (b.led_at l.OpenBrace w p.0 p.1 p.2 p.3 p.4)
-  plain_stops w body rest (inr p) = b.led_stops l.Do (tight_seen l.OpenParenthesis) (b.not_tight_seen l.Do l.OpenParenthesis refl) w rest (b.led_at l.Do w p.1.0 p.1.1 p.1.2 p.1.3 p.1.4)
+  plain_stops : Halts (tight_seen l.OpenParenthesis) (ex.plain T within free)
+  plain_stops = no_parenthesis free _ _
 
-  pub block_follows : (path : List (List ℕ)) → b.Follows (tight_seen l.OpenParenthesis) (ex.new_block T within free path) (tight_seen l.OpenParenthesis)
+  pub block_follows : (path : List (List ℕ)) → Follows (tight_seen l.OpenParenthesis) (ex.new_block T within free path) (tight_seen l.OpenParenthesis)
   block_follows path w x rest (inl c) stop = plain_stops w c.1 rest c.2
-  block_follows path w x rest (inr c) stop = b.follows_nothing (tight_seen l.OpenParenthesis) (tight_seen l.OpenParenthesis) None (λ look spaced e. e) w x rest c.1 stop
+  block_follows path w x rest (inr c) stop = follows_nothing (tight_seen l.OpenParenthesis) (tight_seen l.OpenParenthesis) None (λ look spaced e. e) w x rest c.1 stop
 
   -- ---- `new`
 
   -- The arguments are an empty list where no parentheses stand.
   arguments_out : (K : List Tree → Form Tree) (w : List Token) (x : Tree)
       → f.◌>>=◌ (operands.arguments S within free) (λ found. K (primaries.listed_of found)) w x → f.◌>>=◌ (ex.arguments S within free) K w x
-  arguments_out K w x (a, rest, None, e, c, d) = (a, rest, [], e, inr (c, refl), d)
-  arguments_out K w x (a, rest, Some arguments, e, c, d) = (a, rest, arguments, e, inl c, d)
+  arguments_out K w x (a, rest, found, e, c, d) = (a, rest, primaries.listed_of found, e, arguments_list S within free a found c, d)
 
   pub arguments_back : (K : List Tree → Form Tree) (w : List Token) (x : Tree)
       → f.◌>>=◌ (ex.arguments T within free) K w x → f.◌>>=◌ (operands.arguments T within free) (λ found. K (primaries.listed_of found)) w x
-  arguments_back K w x (a, rest, arguments, e, inl c, d) = (a, rest, Some arguments, e, c, d)
-  arguments_back K w x (a, rest, arguments, e, inr c, d) = (a, rest, None, e, c.0, subst (λ v. K v rest x) c.1 d)
+  arguments_back K w x (a, rest, arguments, e, c, d) =
+      let found = list_arguments T within free a arguments c in
+      (a, rest, found.0, e, found.1, subst (λ v. K v rest x) found.2 d)
 
   abbrev pub new_of : ex.Atom → ℕ → List Tree → Option Tree → Tree
   new_of class at arguments block = tree.New at (ex.atom_tree class) (is_some class.question) arguments block
@@ -172,16 +157,13 @@ module _ (effort : Effort) (rec : Wanted → Reader Tree) (S T : Wanted → Form
   abbrev pub made_tail : (Wanted → Form Tree) → ex.Atom → Form Tree
   made_tail Q class = f.◌>>=◌ (f.exactly (k.Ident o.new_name)) (new_behind Q class)
 
-  new_end_some : (class : ex.Atom) (at : ℕ) (arguments : List Tree) → b.Spelled (new_end S class at arguments)
-  new_end_some class at arguments = b.spelled_bind (block_some class.path.names) (λ block. b.spelled_nothing (new_of class at arguments block))
+  new_end_some : (class : ex.Atom) (at : ℕ) (arguments : List Tree) → Spelled (new_end S class at arguments)
+  new_end_some class at arguments = spelled_bind (block_some class.path.names) (λ block. spelled_nothing (new_of class at arguments block))
 
-  made_some : (class : ex.Atom) → b.Spelled (made_tail S class)
+  made_some : (class : ex.Atom) → Spelled (made_tail S class)
   made_some class =
-      let new_token : b.Spelled (f.exactly (k.Ident o.new_name)) = (a_token (k.Ident o.new_name) ∷ [], 0, (a_token (k.Ident o.new_name), refl, (refl, refl))) in
-      b.spelled_bind new_token (λ at. b.spelled_bind ([], [], inr (refl, refl)) (λ arguments. new_end_some class at arguments))
-
-  pub parenthesis_less : b.Less (tight_seen l.OpenParenthesis) goes
-  parenthesis_less = b.less_tight_seen l.OpenParenthesis goes refl
+      let new_token : Spelled (f.exactly (k.Ident o.new_name)) = (a_token (k.Ident o.new_name) ∷ [], 0, (a_token (k.Ident o.new_name), refl, (refl, refl))) in
+      spelled_bind new_token (λ at. spelled_bind ([], [], inr (refl, refl)) (λ arguments. new_end_some class at arguments))
 
   -- the reader behind the name `new`
   abbrev pub new_reader : ex.Atom → ℕ → Reader Tree
@@ -198,18 +180,18 @@ module _ (effort : Effort) (rec : Wanted → Reader Tree) (S T : Wanted → Form
       (exact_arguments effort rec S T given within free)
       (λ found. exact_bind (last_of found) (last_of found) goes _ (block_by class.path.names _ refl)
       (λ block. exact_pure effort (new_of class at (primaries.listed_of found) block) goes)
-      (λ block. b.spelled_nothing (new_of class at (primaries.listed_of found) block))
-      (λ block. b.follows_never (last_of found block) goes))
+      (λ block. spelled_nothing (new_of class at (primaries.listed_of found) block))
+      (λ block. follows_never (last_of found block) goes))
       (λ found. new_end_some class at (primaries.listed_of found))
-      (λ found. b.follows_bind (tight_seen l.OpenParenthesis) goes (ex.new_block T within free class.path.names) (last_of found) (block_follows class.path.names)
-      (λ block. b.follows_nothing (tight_seen l.OpenParenthesis) goes (new_of class at (primaries.listed_of found) block) parenthesis_less)))
+      (λ found. follows_bind (tight_seen l.OpenParenthesis) goes (ex.new_block T within free class.path.names) (last_of found) (block_follows class.path.names)
+      (λ block. follows_nothing (tight_seen l.OpenParenthesis) goes (new_of class at (primaries.listed_of found) block) (parenthesis_less free))))
 
   exact_made : (class : ex.Atom) → Exact effort Any (made_tail S class) (made_tail T class) goes (primaries.made effort.turns rec within free class)
   exact_made class =
       exact_bind (new_behind S class) (new_behind T class) goes _ (exact_exactly_ident effort never o.new_name)
       (λ at. exact_silent (wrap at) (silent_wrap at) (new_reader class at) (exact_new_end class at))
-      (λ at. b.spelled_bind ([], [], inr (refl, refl)) (λ arguments. new_end_some class at arguments))
-      (λ at. b.follows_never (new_behind T class at) goes)
+      (λ at. spelled_bind ([], [], inr (refl, refl)) (λ arguments. new_end_some class at arguments))
+      (λ at. follows_never (new_behind T class at) goes)
 
   -- ---- `yield`
 
@@ -222,7 +204,7 @@ module _ (effort : Effort) (rec : Wanted → Reader Tree) (S T : Wanted → Form
   exact_pause : (class : ex.Atom) → Exact effort Any (pause_tail class) (pause_tail class) goes (primaries.pause effort.turns rec within free class)
   exact_pause class =
       exact_bind (λ _. f.nothing (pause_of class)) (λ _. f.nothing (pause_of class)) goes _ (exact_word effort k.Yield never)
-      (λ _. exact_pure effort (pause_of class) goes) (λ _. b.spelled_nothing (pause_of class)) (λ _. b.follows_never (f.nothing (pause_of class)) goes)
+      (λ _. exact_pure effort (pause_of class) goes) (λ _. spelled_nothing (pause_of class)) (λ _. follows_never (f.nothing (pause_of class)) goes)
 
   -- ---- the one or the other, behind an atom and its `.`
 
@@ -248,9 +230,9 @@ module _ (effort : Effort) (rec : Wanted → Reader Tree) (S T : Wanted → Form
   tail_led class w x (inl c) =
       let name = c.4 in
       (l.Ident, (name.0, c.1, c.3 ∙ ap (λ (t : List Token). t ++ c.1) name.1, ap look_of name.2.0), c)
-  tail_led class w x (inr c) = (l.Yield, b.led_at l.Yield w c.1.0 c.1.1 c.1.2 c.1.3 c.1.4, c)
+  tail_led class w x (inr c) = (l.Yield, led_at l.Yield w c.1.0 c.1.1 c.1.2 c.1.3 c.1.4, c)
 
-  tail_some : (class : ex.Atom) → b.Spelled (tail S class)
+  tail_some : (class : ex.Atom) → Spelled (tail S class)
   tail_some class = let some = made_some class in (some.0, some.1, inl some.2)
 
   exact_tail : (class : ex.Atom) → Exact effort Any (tail S class) (tail T class) goes (by_look (primaries.made_by effort.turns rec within free class))
@@ -273,7 +255,7 @@ module _ (effort : Effort) (rec : Wanted → Reader Tree) (S T : Wanted → Form
       let text : first.text ≡ name = cc in
       let no_more : others ≡ [] = no_names others cc in
       let empty : m ≡ [] = subst (λ v. f.many (f.◌>>◌ (f.word l.ColonColon) f.constant) m v) no_more found in
-      let alone : w ≡ c = all_of_it w c more p (none_of_it more m end q empty none) in
+      let alone : w ≡ c = all_read w c more p (none_of_it more m end q empty none) in
       (constant.0, alone ∙ constant.1, (constant.2.0 ∙ ap (λ v. k.Constant v) text, ap (λ (v : ex.Path). v.at) that ∙ constant.2.1))
 
   no_arguments : (w : List Token) (xs : List Tree) → ex.type_arguments S true w xs → xs ≡ [] → w ≡ []
@@ -292,7 +274,7 @@ module _ (effort : Effort) (rec : Wanted → Reader Tree) (S T : Wanted → Form
       let names : path.names ≡ o.fiber_name ∷ [] = sym (ap (λ (x : ex.Atom). x.path.names) that) ∙ fiber.0 in
       let first : m ≡ [] = no_arguments m arguments d (sym (ap (λ (x : ex.Atom). x.arguments) that) ∙ fiber.1) in
       let second : n ≡ [] = subst (λ x. f.maybe (f.tight (f.word l.Question)) n x) (sym (ap (λ (x : ex.Atom). x.question) that) ∙ fiber.2) v in
-      let alone : w ≡ a = all_of_it w a rest e (none_of_it rest m behind r first (none_of_it behind n last u second none)) in
+      let alone : w ≡ a = all_read w a rest e (none_of_it rest m behind r first (none_of_it behind n last u second none)) in
       let name = path_alone o.fiber_name a path c names in
       (name.0, alone ∙ name.1, (name.2.0, ap (λ (x : ex.Atom). x.path.at) that ∙ name.2.1))
 
@@ -327,9 +309,9 @@ module _ (effort : Effort) (rec : Wanted → Reader Tree) (S T : Wanted → Form
       exact_map (f.◌<|>◌ (ex.made S within free) (ex.pause S within free)) (f.◌<|>◌ (ex.made T within free) (ex.pause T within free)) out back
       (exact_bind (behind_atom S) (behind_atom T) goes _ (exact_atom effort rec S T given true)
       (λ class. exact_bind (λ _. tail S class) (λ _. tail T class) goes _ (exact_word effort k.Dot never) (λ _. exact_tail class)
-      (λ _. tail_some class) (λ _. b.follows_never (tail T class) goes))
-      (λ class. b.spelled_bind (b.spelled_word k.Dot) (λ _. tail_some class))
-      (λ class. b.follows_led l.Dot goes_type goes (behind_atom T class) (λ spaced. refl) (b.led l.Dot _)))
+      (λ _. tail_some class) (λ _. follows_never (tail T class) goes))
+      (λ class. spelled_bind (spelled_word k.Dot) (λ _. tail_some class))
+      (λ class. follows_led l.Dot goes_type goes (behind_atom T class) (λ spaced. refl) (led l.Dot _)))
 
 module _ (effort : Effort) (rec : Wanted → Reader Tree) (S T : Wanted → Form Tree) (given : claims.Given effort rec S T) where
   pub exact_of_class : (within : Within) (free : Bool) → claims.OfClass effort rec S T within free

@@ -17,9 +17,11 @@ use Rattle.cr_exact.specs.Exact.{Effort}
 use Rattle.cr_descent.specs.Goes as g
 use Rattle.cr_descent.specs.Bodies as bodies_spec
 use Rattle.cr_descent.specs.Compounds as compounds
+use Rattle.cr_exact.proofs.TokenTests.{Not, at_seen, look_apart, not_seen, not_either}
+use Rattle.cr_exact.proofs.Forms.{spelled_word, spelled_stmts}
+use Rattle.cr_exact.proofs.Heads.{tested}
+use Rattle.cr_exact.proofs.Steps.{Begins, Starts, starts_word, starts_bind, starts_or, starts_nothing, starts_maybe, starts_many, starts_led, Reads, reads_word, reads_separators, reads_listed, reads_pure, reads_part, reads_grow, reads_bind, reads_sure, reads_map, reads_many, reads_some}
 use Rattle.cr_descent.proofs.Claims as claims
-use Rattle.cr_descent.proofs.Lists.{Not}
-use Rattle.cr_descent.proofs.Steps.{Begins, Starts, starts_word, starts_bind, starts_or, starts_nothing, starts_maybe, starts_many, starts_led, at_seen, first_passes, first_stops, not_seen, other_look, not_either, Reads, somehow_word, somehow_stmts, reads_word, reads_separators, reads_listed, reads_pure, reads_part, reads_grow, reads_bind, reads_sure, reads_map, reads_many, reads_some}
 use Rattle.cr_descent.proofs.Bodies as bodies
 
 module _ (effort : Effort) (rec : Wanted → Reader Tree) (S T : Wanted → Form Tree) (given : claims.Given effort rec S T) where
@@ -29,10 +31,10 @@ module _ (effort : Effort) (rec : Wanted → Reader Tree) (S T : Wanted → Form
   reads_rec v = (given.exact v, given.some v)
 
   pub reads_body : (within : Within) → Reads effort (ex.body S within) (ex.body T within) g.goes_body (bodies_spec.body effort.turns rec within)
-  reads_body within = (bodies.exact_body effort rec S T given within, somehow_stmts _)
+  reads_body within = (bodies.exact_body effort rec S T given within, spelled_stmts _)
 
   pub reads_then : Reads effort (ex.then S) (ex.then T) never (bodies_spec.then effort.turns rec)
-  reads_then = (bodies.exact_then effort rec S T given, (let s = somehow_word k.Newline in (s.0, s.1, inl s.2)))
+  reads_then = (bodies.exact_then effort rec S T given, (let s = spelled_word k.Newline in (s.0, s.1, inl s.2)))
 
   pub reads_otherwise : (within : Within) → Reads effort (ex.otherwise S within) (ex.otherwise T within) (either (seen l.Else) g.goes_body) (bodies_spec.otherwise effort.turns rec within)
   reads_otherwise within = (bodies.exact_otherwise effort rec S T given within, ([], None, refl))
@@ -45,28 +47,28 @@ module _ (effort : Effort) (rec : Wanted → Reader Tree) (S T : Wanted → Form
   begins_end h not D = starts_bind D (starts_word l.KeywordEnd not)
 
   pub end_else : Not l.KeywordEnd (either (seen l.Else) g.goes_body)
-  end_else = not_either (seen l.Else) g.goes_body (other_look l.KeywordEnd l.Else (λ e. cc)) (λ spaced. refl)
+  end_else = not_either _ (seen l.Else) g.goes_body (not_seen l.KeywordEnd l.Else (λ e. cc)) (λ spaced. refl)
 
   pub end_elsif : Not l.KeywordEnd (either (seen l.Elsif) g.goes_body)
-  end_elsif = not_either (seen l.Elsif) g.goes_body (other_look l.KeywordEnd l.Elsif (λ e. cc)) (λ spaced. refl)
+  end_elsif = not_either _ (seen l.Elsif) g.goes_body (not_seen l.KeywordEnd l.Elsif (λ e. cc)) (λ spaced. refl)
 
   pub else_elsif : Not l.Else (either (seen l.Elsif) g.goes_body)
-  else_elsif = not_either (seen l.Elsif) g.goes_body (other_look l.Else l.Elsif (λ e. cc)) (λ spaced. refl)
+  else_elsif = not_either _ (seen l.Elsif) g.goes_body (not_seen l.Else l.Elsif (λ e. cc)) (λ spaced. refl)
 
   pub end_in : Not l.KeywordEnd (either (seen l.In) g.goes_body)
-  end_in = not_either (seen l.In) g.goes_body (other_look l.KeywordEnd l.In (λ e. cc)) (λ spaced. refl)
+  end_in = not_either _ (seen l.In) g.goes_body (not_seen l.KeywordEnd l.In (λ e. cc)) (λ spaced. refl)
 
   pub end_when : Not l.KeywordEnd (either (seen l.When) g.goes_body)
-  end_when = not_either (seen l.When) g.goes_body (other_look l.KeywordEnd l.When (λ e. cc)) (λ spaced. refl)
+  end_when = not_either _ (seen l.When) g.goes_body (not_seen l.KeywordEnd l.When (λ e. cc)) (λ spaced. refl)
 
   pub else_when : Not l.Else (either (seen l.When) g.goes_body)
-  else_when = not_either (seen l.When) g.goes_body (other_look l.Else l.When (λ e. cc)) (λ spaced. refl)
+  else_when = not_either _ (seen l.When) g.goes_body (not_seen l.Else l.When (λ e. cc)) (λ spaced. refl)
 
   pub line_type : Not l.Newline (either (seen l.Comma) g.goes_type)
-  line_type = not_either (seen l.Comma) g.goes_type (other_look l.Newline l.Comma (λ e. cc)) (λ spaced. refl)
+  line_type = not_either _ (seen l.Comma) g.goes_type (not_seen l.Newline l.Comma (λ e. cc)) (λ spaced. refl)
 
   pub then_type : Not l.Then (either (seen l.Comma) g.goes_type)
-  then_type = not_either (seen l.Comma) g.goes_type (other_look l.Then l.Comma (λ e. cc)) (λ spaced. refl)
+  then_type = not_either _ (seen l.Comma) g.goes_type (not_seen l.Then l.Comma (λ e. cc)) (λ spaced. refl)
 
   module _ (within : Within) (free : Bool) where
     pub looping : (kind : TokenKind) (until : Bool)
@@ -114,7 +116,7 @@ module _ (effort : Effort) (rec : Wanted → Reader Tree) (S T : Wanted → Form
 
     pub types_lineless : Begins (seen l.Newline) (T (Written false))
     types_lineless = record {
-      first = λ w x rest c. first_stops begins_type (seen l.Newline) (not_seen l.Newline begins_type refl) w rest
+      first = λ w x rest c. tested false begins_type (seen l.Newline) (look_apart begins_type l.Newline refl) w rest
           (given.type_begins false w x c);
     }
 
@@ -128,12 +130,12 @@ module _ (effort : Effort) (rec : Wanted → Reader Tree) (S T : Wanted → Form
 
     pub when_heads : Starts true (seen l.When) (T (When within free))
     when_heads = record {
-      first = λ w x rest c. first_passes (λ a. seen l.When a false) (seen l.When) (λ a spaced is. is) w rest
+      first = λ w x rest c. tested true (λ a. seen l.When a false) (seen l.When) (λ a spaced is. is) w rest
           (given.when_begins within free w x c);
     }
 
     pub begins_when : Begins (seen l.Newline) (T (When within free))
-    begins_when = starts_led l.When false (seen l.Newline) (other_look l.When l.Newline (λ e. cc)) when_heads
+    begins_when = starts_led l.When false (seen l.Newline) (not_seen l.When l.Newline (λ e. cc)) when_heads
 
   pub exact_conditional : (within : Within) (free : Bool) → claims.Conditional effort rec S T within free
   exact_conditional within free = (
@@ -156,7 +158,7 @@ module _ (effort : Effort) (rec : Wanted → Reader Tree) (S T : Wanted → Form
       reads_bind (reads_some l.In (λ spaced. refl) (starts_bind _ (starts_word l.In (at_seen l.In))) (in_clause within free)) (λ clauses.
       reads_map (λ _. _) (reads_word effort k.KeywordEnd never))
       (λ clauses. begins_end (either (seen l.In) g.goes_body) end_in _))
-      (λ _. starts_bind _ (starts_bind _ (starts_bind _ (starts_word l.In (other_look l.In l.Newline (λ e. cc))))))))
+      (λ _. starts_bind _ (starts_bind _ (starts_bind _ (starts_word l.In (not_seen l.In l.Newline (λ e. cc))))))))
       (λ value. starts_bind _ (starts_word l.Newline (λ spaced. refl)))))).0
 
   pub exact_select : (within : Within) (free : Bool) → claims.Select effort rec S T within free

@@ -15,25 +15,27 @@ use Rattle.cr_grammar.specs.Forms.{Form, Word, nothing}
 use Rattle.cr_grammar.specs.Forms as f
 use Rattle.cr_grammar.specs.Operators as o
 use Rattle.cr_grammar.specs.Wanted.{Wanted, Written, Stmt, in_method, top}
-use Rattle.cr_grammar.specs.Expressions as ex
 use Rattle.cr_grammar.specs.Laws.{begins_stmt}
 use Rattle.cr_grammar.specs.Grammar as gr
 use Rattle.cr_exact.specs.Reader.{Reader, Test, passes, pure, choose, expect, only, either, seen, tight_seen, never, part, beside, ◌>>◌}
 use Rattle.cr_exact.specs.Lists.{optional, listed, parenthesized, stmts}
 use Rattle.cr_exact.specs.Exact.{Effort, Exact, Any, Stops}
-use Rattle.cr_exact.proofs.Sequence.{exact_bind, exact_pure, exact_goes, weaken}
-use Rattle.cr_exact.proofs.Tokens.{Passing, clash, a_token, exact_word, exact_take, exact_choose, exact_only}
-use Rattle.cr_exact.proofs.Nodes.{exact_beside}
-use Rattle.cr_exact.proofs.Loops.{stops_left, either_left, either_right}
 use Rattle.cr_descent.specs.Goes as g
 use Rattle.cr_descent.specs.Words.{ident, constant, instance_variable}
-use Rattle.cr_descent.specs.Bodies.{body}
 use Rattle.cr_descent.specs.Declarations as declarations
+use Rattle.cr_exact.proofs.TokenTests.{clash, stops_left, either_left, either_right, At, at_seen, look_apart, not_seen, not_either, never_stops, not_tight_seen, other_look}
+use Rattle.cr_exact.proofs.Sequence.{exact_bind, exact_pure, exact_goes, weaken}
+use Rattle.cr_exact.proofs.Tokens.{Passing, a_token, exact_take, exact_choose, exact_only}
+use Rattle.cr_exact.proofs.Forms.{Spelled, spelled_bind, spelled_word, spelled_nothing, spelled_seps, spelled_parenthesized, spelled_stmts, spelled_held}
+use Rattle.cr_exact.proofs.Heads.{led_heads, tested}
+use Rattle.cr_exact.proofs.Nodes.{exact_beside}
+use Rattle.cr_exact.proofs.Lists.{exact_parenthesized, exact_tight, exact_tight_word}
+use Rattle.cr_exact.proofs.Closed.{exact_or_none}
+use Rattle.cr_exact.proofs.Lines.{exact_stmts}
+use Rattle.cr_exact.proofs.Steps.{Starts, Begins, Reads, starts_word, starts_holding, starts_bind, starts_or, starts_where, starts_maybe, starts_or_none, starts_tight, starts_passing, starts_led, reads_word, reads_pure, reads_part, reads_grow, reads_bind, reads_sure, reads_map, reads_goes, reads_free, reads_as, reads_choose, reads_or_nothing, reads_optional, reads_listed}
 use Rattle.cr_descent.proofs.Claims as claims
-use Rattle.cr_descent.proofs.Lists.{exact_or_none, exact_parenthesized, exact_stmts}
-use Rattle.cr_descent.proofs.Bodies.{exact_body}
 use Rattle.cr_descent.proofs.Words.{exact_ident, exact_constant, exact_instance_variable}
-use Rattle.cr_descent.proofs.Steps.{At, Starts, Begins, Reads, Somehow, starts_word, starts_holding, starts_bind, starts_or, starts_where, starts_maybe, starts_or_none, starts_tight, starts_passing, starts_led, at_seen, first_passes, first_stops, not_seen, other_look, not_either, stops_never, somehow_bind, somehow_word, somehow_nothing, somehow_seps, somehow_parenthesized, somehow_stmts, reads_word, reads_pure, reads_part, reads_grow, reads_bind, reads_sure, reads_map, reads_goes, reads_free, reads_as, reads_choose, reads_or_nothing, reads_optional, reads_listed, exact_tight}
+use Rattle.cr_descent.proofs.Compounds.{reads_rec, reads_body}
 
 -- ---- names
 
@@ -41,17 +43,12 @@ use Rattle.cr_descent.proofs.Steps.{At, Starts, Begins, Reads, Somehow, starts_w
 abbrev tight_word : {A : Type 0} → TokenLook → A → Form A
 tight_word a x = f.◌>>=◌ (f.tight (f.word a)) (λ _. nothing x)
 
-exact_tight_word : (effort : Effort) (kind : TokenKind) (g : Test) → Exact effort (Passing (tight_seen (look_of kind))) (f.tight (f.word (look_of kind))) (f.tight (f.word (look_of kind))) g (expect (look_of kind))
-exact_tight_word effort kind g =
-    exact_tight (look_of kind) (starts_word (look_of kind) (at_seen (look_of kind))) (a_token kind ∷ []) 0 (a_token kind, refl, (refl, refl)) refl
-    (exact_word effort kind g)
-
 -- a tight word comes, and a value for it
 exact_tight_value : (effort : Effort) (kind : TokenKind) {A : Type 0} (x : A)
     → Exact effort (Passing (tight_seen (look_of kind))) (tight_word (look_of kind) x) (tight_word (look_of kind) x) never (expect (look_of kind) >> pure x)
 exact_tight_value effort kind x =
     exact_bind (λ _. nothing x) (λ _. nothing x) never (λ _. pure x) (exact_tight_word effort kind never) (λ _. exact_pure effort x never)
-    (λ _. ([], x, (refl, refl))) (λ _ b y rest d stop. stops_never (b ++ rest))
+    (λ _. ([], x, (refl, refl))) (λ _ b y rest d stop. never_stops (b ++ rest))
 
 starts_tight_word : (a : TokenLook) {A : Type 0} (x : A) → Starts true (tight_seen a) (tight_word a x)
 starts_tight_word a x = starts_bind (λ _. nothing x) (starts_tight a (starts_word a (at_seen a)))
@@ -66,25 +63,13 @@ reads_tight_word effort kind g = (
 )
 
 reads_ident : (effort : Effort) (g : Test) → Reads effort f.ident f.ident g ident
-reads_ident effort g = (exact_ident effort g, (a_token (k.Ident []) ∷ [], record { at = 0; text = [] }, (a_token (k.Ident []), refl, (refl, refl))))
+reads_ident effort g = (exact_ident effort g, spelled_held (λ text. k.Ident text))
 
 pub reads_constant : (effort : Effort) (g : Test) → Reads effort f.constant f.constant g constant
-reads_constant effort g = (exact_constant effort g, (a_token (k.Constant []) ∷ [], record { at = 0; text = [] }, (a_token (k.Constant []), refl, (refl, refl))))
+reads_constant effort g = (exact_constant effort g, spelled_held (λ text. k.Constant text))
 
 reads_variable : (effort : Effort) (g : Test) → Reads effort f.instance_variable f.instance_variable g instance_variable
-reads_variable effort g = (
-  exact_instance_variable effort g,
-  (
-    a_token (k.InstanceVariable []) ∷ [],
-    record { at = 0; text = [] },
-    (a_token (k.InstanceVariable []), refl, (refl, refl)),
-  ),
-)
-
--- one look that is tight is not another
-pub not_tight : (a b : TokenLook) → (a ≡ b → ⊥) → At false a (tight_seen b)
-not_tight a b other true = refl
-not_tight a b other false = other_look a b other false
+reads_variable effort g = (exact_instance_variable effort g, spelled_held (λ text. k.InstanceVariable text))
 
 -- ---- the name of a method
 
@@ -144,7 +129,7 @@ index_back w x (inr (inl c)) = inl c
 index_back w x (inr (inr c)) = inr (inl c)
 
 no_equal : (w : List Token) (x : List ℕ) (rest : List Token) → question_or_none w x → Stops goes_name rest → Stops (tight_seen l.Equal) (w ++ rest)
-no_equal w x rest (inl c) stop = (starts_led l.Question false (tight_seen l.Equal) (not_tight l.Question l.Equal (λ e. cc))
+no_equal w x rest (inl c) stop = (starts_led l.Question false (tight_seen l.Equal) (not_tight_seen l.Question l.Equal (other_look l.Question l.Equal (λ e. cc)))
     (starts_bind (λ _. nothing o.index_question_name) (starts_passing f.is_tight (starts_word l.Question (at_seen l.Question))))).first w x rest c
 no_equal w x rest (inr c) stop = ap (λ (v : List Token). passes (tight_seen l.Equal) (v ++ rest)) c.0 ∙ stops_left (tight_seen l.Equal) (tight_seen l.Question) rest
     stop
@@ -185,7 +170,7 @@ reads_operator effort g = (
 starts_operator : (a : TokenLook) → is_some (o.operator_name a) ≡ false → Starts false (seen a) operator
 starts_operator a not = record {
   first = λ w x rest c. ap (λ (v : List Token). passes (seen a) (v ++ rest)) c.1
-      ∙ not_seen a (λ b. is_some (o.operator_name b)) not (look_of c.0.kind) c.0.spaced (ap (λ (v : Option (List ℕ)). is_some v) c.2);
+      ∙ look_apart (λ b. is_some (o.operator_name b)) a not (look_of c.0.kind) c.0.spaced (ap (λ (v : Option (List ℕ)). is_some v) c.2);
 }
 
 -- the lines of the name, in the order in which they are tried
@@ -195,7 +180,7 @@ name_tried = f.◌<|>◌ plain_name (f.◌<|>◌ index_names operator)
 reads_name_tried : (effort : Effort) → Reads effort name_tried name_tried goes_name declarations.method_name
 reads_name_tried effort =
     reads_choose (seen l.Ident) (starts_bind _ (starts_holding (λ text. k.Ident text) l.Ident (λ text. refl) (at_seen l.Ident)))
-    (starts_or (starts_bind _ (starts_bind _ (starts_word l.OpenBracket (other_look l.OpenBracket l.Ident (λ e. cc))))) (starts_operator l.Ident refl))
+    (starts_or (starts_bind _ (starts_bind _ (starts_word l.OpenBracket (not_seen l.OpenBracket l.Ident (λ e. cc))))) (starts_operator l.Ident refl))
     (reads_goes goes_name (λ a spaced stop. either_left _ _ stop) (reads_plain_name effort))
     (reads_choose (seen l.OpenBracket) (starts_bind _ (starts_bind _ (starts_word l.OpenBracket (at_seen l.OpenBracket)))) (starts_operator l.OpenBracket refl)
     (reads_index_names effort) (reads_operator effort goes_name))
@@ -218,11 +203,8 @@ module _ (effort : Effort) (rec : Wanted → Reader Tree) (S T : Wanted → Form
 
   -- ---- parameters
 
-  reads_rec : (v : Wanted) → Reads effort (S v) (T v) (g.goes_of v) (rec v)
-  reads_rec v = (given.exact v, given.some v)
-
   reads_restriction : Reads effort (gr.restriction S) (gr.restriction T) g.goes_type (declarations.restriction effort.turns rec)
-  reads_restriction = reads_sure (reads_word effort k.Colon never) (λ _. reads_part (reads_rec (Written true)))
+  reads_restriction = reads_sure (reads_word effort k.Colon never) (λ _. reads_part (reads_rec effort rec S T given (Written true)))
 
   -- [ ":" type ] goes on by a `:`, or as a type does
   abbrev pub goes_restricted : Test
@@ -259,7 +241,7 @@ module _ (effort : Effort) (rec : Wanted → Reader Tree) (S T : Wanted → Form
       reads_as (param S true) (param T true) out back
       (reads_choose (seen l.InstanceVariable)
       (starts_bind _ (starts_holding (λ text. k.InstanceVariable text) l.InstanceVariable (λ text. refl) (at_seen l.InstanceVariable)))
-      (starts_bind _ (starts_holding (λ text. k.Ident text) l.Ident (λ text. refl) (other_look l.Ident l.InstanceVariable (λ e. cc))))
+      (starts_bind _ (starts_holding (λ text. k.Ident text) l.Ident (λ text. refl) (not_seen l.Ident l.InstanceVariable (λ e. cc))))
       reads_field reads_local) where
         out : (w : List Token) (x : Tree) → (f.◌<|>◌ (field S) (local S)) w x → param S true w x
         out w x (inl c) = inr (refl, c)
@@ -275,18 +257,18 @@ module _ (effort : Effort) (rec : Wanted → Reader Tree) (S T : Wanted → Form
 
   pub begins_param : (a : TokenLook) (instance : Bool) → (l.Ident ≡ a → ⊥) → (l.InstanceVariable ≡ a → ⊥) → Begins (seen a) (param T instance)
   begins_param a instance one other =
-      starts_or (starts_bind _ (starts_holding (λ text. k.Ident text) l.Ident (λ text. refl) (other_look l.Ident a one)))
+      starts_or (starts_bind _ (starts_holding (λ text. k.Ident text) l.Ident (λ text. refl) (not_seen l.Ident a one)))
       (starts_where instance (starts_bind _ (starts_holding (λ text. k.InstanceVariable text) l.InstanceVariable (λ text. refl)
-      (other_look l.InstanceVariable a other))))
+      (not_seen l.InstanceVariable a other))))
 
   -- R in parentheses that are tight, or nothing
-  reads_enclosed : {A : Type 0} {R C : Form (List A)} (p : Reader (List A)) → Somehow R
+  reads_enclosed : {A : Type 0} {R C : Form (List A)} (p : Reader (List A)) → Spelled R
       → Exact effort Any (f.parenthesized R) (f.parenthesized C) never (parenthesized effort.turns p)
       → Reads effort (f.◌<|>◌ (f.tight (f.parenthesized R)) (nothing [])) (f.◌<|>◌ (f.tight (f.parenthesized C)) (nothing [])) (tight_seen l.OpenParenthesis) (declarations.enclosed effort.turns rec p)
   reads_enclosed {R = R} {C = C} p some e =
-      let s = somehow_parenthesized some in
+      let s = spelled_parenthesized some in
       reads_or_nothing (tight_seen l.OpenParenthesis) [] (starts_tight l.OpenParenthesis (starts_bind _ (starts_word l.OpenParenthesis (at_seen l.OpenParenthesis))))
-      (exact_tight l.OpenParenthesis (starts_bind _ (starts_word l.OpenParenthesis (at_seen l.OpenParenthesis))) s.0 s.1 s.2 refl e)
+      (exact_tight l.OpenParenthesis (led_heads l.OpenParenthesis _) s.0 s.1 s.2 refl e)
 
   -- the same and what follows it
   pub starts_enclosed : (h : Test) {A B : Type 0} {C : Form (List A)} (D : List A → Form B) → At false l.OpenParenthesis h → ((xs : List A) → Starts false h (D xs))
@@ -299,7 +281,7 @@ module _ (effort : Effort) (rec : Wanted → Reader Tree) (S T : Wanted → Form
   pub reads_params : (instance : Bool)
       → Reads effort (f.listed (param S instance)) (f.listed (param T instance)) goes_listed (listed effort.turns (part (declarations.param effort.turns rec instance)))
   reads_params instance =
-      reads_listed (not_either (seen l.Colon) g.goes_type (other_look l.Comma l.Colon (λ e. cc)) (λ spaced. refl))
+      reads_listed (not_either _ (seen l.Colon) g.goes_type (not_seen l.Comma l.Colon (λ e. cc)) (λ spaced. refl))
       (begins_param l.Newline instance (λ e. cc) (λ e. cc)) (reads_part (reads_param instance))
 
   abbrev pub parameters : (Wanted → Form Tree) → Bool → Form (List Tree)
@@ -307,8 +289,8 @@ module _ (effort : Effort) (rec : Wanted → Reader Tree) (S T : Wanted → Form
 
   -- no token of this look goes on in a list of parameters
   pub listed_not : (a : TokenLook) → (a ≡ l.Comma → ⊥) → (a ≡ l.Colon → ⊥) → At false a g.goes_type → At false a goes_listed
-  listed_not a comma colon type = not_either (seen l.Comma) goes_restricted (other_look a l.Comma comma)
-      (not_either (seen l.Colon) g.goes_type (other_look a l.Colon colon) type)
+  listed_not a comma colon type = not_either _ (seen l.Comma) goes_restricted (not_seen a l.Comma comma)
+      (not_either _ (seen l.Colon) g.goes_type (not_seen a l.Colon colon) type)
 
   pub reads_parameters : (within : Within)
       → Reads effort (parameters S within.initialize) (parameters T within.initialize) (tight_seen l.OpenParenthesis) (declarations.parameters effort.turns rec within)
@@ -320,8 +302,8 @@ module _ (effort : Effort) (rec : Wanted → Reader Tree) (S T : Wanted → Form
             (listed_not l.Newline (λ e. cc) (λ e. cc) (λ spaced. refl)) k.CloseParenthesis (listed_not l.CloseParenthesis (λ e. cc) (λ e. cc) (λ spaced. refl))
             (λ e. cc)
             (starts_bind _ (begins_param l.CloseParenthesis within.initialize (λ e. cc) (λ e. cc))).first,
-        somehow_bind somehow_seps (λ _. somehow_bind {R = f.or_none (f.listed (param S within.initialize))} ([], [], inr (refl, refl)) (λ xs.
-            somehow_bind somehow_seps (λ _. somehow_bind (somehow_word k.CloseParenthesis) (λ _. somehow_nothing xs)))),
+        spelled_bind spelled_seps (λ _. spelled_bind {R = f.or_none (f.listed (param S within.initialize))} ([], [], inr (refl, refl)) (λ xs.
+            spelled_bind spelled_seps (λ _. spelled_bind (spelled_word k.CloseParenthesis) (λ _. spelled_nothing xs)))),
       ))).0
 
   -- ---- methods
@@ -348,12 +330,9 @@ module _ (effort : Effort) (rec : Wanted → Reader Tree) (S T : Wanted → Form
         (c.0, c.1, c.2, c.3, result_back T initialize c.0 c.2 c.4, c.5);
   }
 
-  reads_body : (within : Within) → Reads effort (ex.body S within) (ex.body T within) g.goes_body (body effort.turns rec within)
-  reads_body within = (exact_body effort rec S T given within, somehow_stmts _)
-
   -- no token of this look goes on as a name, where it is neither `=` nor `?`
   pub name_not : (a : TokenLook) → (a ≡ l.Equal → ⊥) → (a ≡ l.Question → ⊥) → At false a goes_name
-  name_not a equal question = not_either (tight_seen l.Equal) (tight_seen l.Question) (not_tight a l.Equal equal) (not_tight a l.Question question)
+  name_not a equal question = not_either _ (tight_seen l.Equal) (tight_seen l.Question) (not_tight_seen a l.Equal (other_look a l.Equal equal)) (not_tight_seen a l.Question (other_look a l.Question question))
 
   reads_def : (class : Bool) → Reads effort (gr.def S class) (gr.def T class) never (declarations.def effort.turns rec class)
   reads_def class =
@@ -362,12 +341,12 @@ module _ (effort : Effort) (rec : Wanted → Reader Tree) (S T : Wanted → Form
       reads_bind (reads_parameters (in_method class name)) (λ parameters.
       reads_bind (reads_result (bytes_eq name o.initialize_name)) (λ result.
       reads_sure (reads_word effort k.Newline never) (λ _.
-      reads_bind (reads_body (in_method class name)) (λ body.
+      reads_bind (reads_body effort rec S T given (in_method class name)) (λ body.
       reads_map (λ _. _) (reads_word effort k.KeywordEnd never))
       (λ body. starts_bind _ (starts_word l.KeywordEnd (λ spaced. refl)))))
-      (λ result. starts_bind _ (starts_word l.Newline (not_either (seen l.Colon) g.goes_type (other_look l.Newline l.Colon (λ e. cc)) (λ spaced. refl)))))
-      (λ parameters. starts_result (tight_seen l.OpenParenthesis) (bytes_eq name o.initialize_name) _ (not_tight l.Colon l.OpenParenthesis (λ e. cc))
-      (λ result. starts_bind _ (starts_word l.Newline (not_tight l.Newline l.OpenParenthesis (λ e. cc))))))
+      (λ result. starts_bind _ (starts_word l.Newline (not_either _ (seen l.Colon) g.goes_type (not_seen l.Newline l.Colon (λ e. cc)) (λ spaced. refl)))))
+      (λ parameters. starts_result (tight_seen l.OpenParenthesis) (bytes_eq name o.initialize_name) _ (not_tight_seen l.Colon l.OpenParenthesis (other_look l.Colon l.OpenParenthesis (λ e. cc)))
+      (λ result. starts_bind _ (starts_word l.Newline (not_tight_seen l.Newline l.OpenParenthesis (other_look l.Newline l.OpenParenthesis (λ e. cc)))))))
       (λ name. starts_enclosed goes_name _ (name_not l.OpenParenthesis (λ e. cc) (λ e. cc))
       (λ parameters. starts_result goes_name (bytes_eq name o.initialize_name) _ (name_not l.Colon (λ e. cc) (λ e. cc))
       (λ result. starts_bind _ (starts_word l.Newline (name_not l.Newline (λ e. cc) (λ e. cc))))))))
@@ -400,8 +379,8 @@ module _ (effort : Effort) (rec : Wanted → Reader Tree) (S T : Wanted → Form
       → Reads effort (gr.accessors S (look_of kind) property) (gr.accessors T (look_of kind) property) goes_listed (declarations.accessors effort.turns rec (look_of kind) property)
   reads_accessors kind property =
       reads_sure (reads_word effort kind never) (λ at. reads_grow at (reads_map (λ found. tree.Accessors at property found)
-      (reads_listed (not_either (seen l.Colon) g.goes_type (other_look l.Comma l.Colon (λ e. cc)) (λ spaced. refl))
-      (starts_bind _ (starts_holding (λ text. k.Ident text) l.Ident (λ text. refl) (other_look l.Ident l.Newline (λ e. cc)))) (reads_part reads_acc))))
+      (reads_listed (not_either _ (seen l.Colon) g.goes_type (not_seen l.Comma l.Colon (λ e. cc)) (λ spaced. refl))
+      (starts_bind _ (starts_holding (λ text. k.Ident text) l.Ident (λ text. refl) (not_seen l.Ident l.Newline (λ e. cc)))) (reads_part reads_acc))))
 
   pub starts_accessors : {v : Bool} {h : Test} (a : TokenLook) (property : Bool) → At v a h → Starts v h (gr.accessors T a property)
   starts_accessors a property at = starts_bind _ (starts_word a at)
@@ -409,21 +388,21 @@ module _ (effort : Effort) (rec : Wanted → Reader Tree) (S T : Wanted → Form
   pub reads_member : Reads effort (gr.member S) (gr.member T) goes_listed (declarations.member effort.turns rec)
   reads_member =
       reads_choose (seen l.Def) (starts_def true (at_seen l.Def))
-      (starts_or (starts_include (other_look l.Include l.Def (λ e. cc))) (starts_or (starts_declaration (other_look l.InstanceVariable l.Def (λ e. cc)))
-      (starts_or (starts_accessors l.Getter false (other_look l.Getter l.Def (λ e. cc)))
-      (starts_accessors l.Property true (other_look l.Property l.Def (λ e. cc))))))
+      (starts_or (starts_include (not_seen l.Include l.Def (λ e. cc))) (starts_or (starts_declaration (not_seen l.InstanceVariable l.Def (λ e. cc)))
+      (starts_or (starts_accessors l.Getter false (not_seen l.Getter l.Def (λ e. cc)))
+      (starts_accessors l.Property true (not_seen l.Property l.Def (λ e. cc))))))
       (reads_free goes_listed (reads_def true))
       (reads_choose (seen l.Include) (starts_include (at_seen l.Include))
-      (starts_or (starts_declaration (other_look l.InstanceVariable l.Include (λ e. cc)))
-      (starts_or (starts_accessors l.Getter false (other_look l.Getter l.Include (λ e. cc)))
-      (starts_accessors l.Property true (other_look l.Property l.Include (λ e. cc)))))
+      (starts_or (starts_declaration (not_seen l.InstanceVariable l.Include (λ e. cc)))
+      (starts_or (starts_accessors l.Getter false (not_seen l.Getter l.Include (λ e. cc)))
+      (starts_accessors l.Property true (not_seen l.Property l.Include (λ e. cc)))))
       (reads_free goes_listed reads_include)
       (reads_choose (seen l.InstanceVariable) (starts_declaration (at_seen l.InstanceVariable))
-      (starts_or (starts_accessors l.Getter false (other_look l.Getter l.InstanceVariable (λ e. cc)))
-      (starts_accessors l.Property true (other_look l.Property l.InstanceVariable (λ e. cc))))
+      (starts_or (starts_accessors l.Getter false (not_seen l.Getter l.InstanceVariable (λ e. cc)))
+      (starts_accessors l.Property true (not_seen l.Property l.InstanceVariable (λ e. cc))))
       (reads_goes goes_listed (λ a spaced stop. either_right _ _ (either_right _ _ stop)) reads_declaration)
       (reads_choose (seen l.Getter) (starts_accessors l.Getter false (at_seen l.Getter))
-      (starts_accessors l.Property true (other_look l.Property l.Getter (λ e. cc)))
+      (starts_accessors l.Property true (not_seen l.Property l.Getter (λ e. cc)))
       (reads_accessors k.Getter false) (reads_accessors k.Property true))))
 
   abbrev begins_member : Test
@@ -438,7 +417,7 @@ module _ (effort : Effort) (rec : Wanted → Reader Tree) (S T : Wanted → Form
   module_member Q = f.◌<|>◌ (gr.def Q true) (gr.include Q)
 
   pub reads_module_member : Reads effort (module_member S) (module_member T) never (declarations.module_member effort.turns rec)
-  reads_module_member = reads_choose (seen l.Def) (starts_def true (at_seen l.Def)) (starts_include (other_look l.Include l.Def (λ e. cc))) (reads_def true)
+  reads_module_member = reads_choose (seen l.Def) (starts_def true (at_seen l.Def)) (starts_include (not_seen l.Include l.Def (λ e. cc))) (reads_def true)
       reads_include
 
   abbrev begins_module_member : Test
@@ -463,9 +442,9 @@ module _ (effort : Effort) (rec : Wanted → Reader Tree) (S T : Wanted → Form
   closed test e1 e2 e3 e4 e5 e6 e7 other spaced stop = absurd cc
 
   pub closed_line : (found : TokenLook) (spaced : Bool) → g.goes_body found spaced ≡ false → seen l.Newline found spaced ≡ false
-  closed_line = closed (seen l.Newline) (other_look l.KeywordEnd l.Newline (λ e. cc)) (other_look l.CloseBrace l.Newline (λ e. cc))
-      (other_look l.Else l.Newline (λ e. cc))
-      (other_look l.Elsif l.Newline (λ e. cc)) (other_look l.In l.Newline (λ e. cc)) (other_look l.When l.Newline (λ e. cc)) (other_look l.End l.Newline (λ e. cc))
+  closed_line = closed (seen l.Newline) (not_seen l.KeywordEnd l.Newline (λ e. cc)) (not_seen l.CloseBrace l.Newline (λ e. cc))
+      (not_seen l.Else l.Newline (λ e. cc))
+      (not_seen l.Elsif l.Newline (λ e. cc)) (not_seen l.In l.Newline (λ e. cc)) (not_seen l.When l.Newline (λ e. cc)) (not_seen l.End l.Newline (λ e. cc))
 
   pub closed_listed : (found : TokenLook) (spaced : Bool) → g.goes_body found spaced ≡ false → goes_listed found spaced ≡ false
   closed_listed = closed goes_listed (listed_not l.KeywordEnd (λ e. cc) (λ e. cc) (λ spaced. refl)) (listed_not l.CloseBrace (λ e. cc) (λ e. cc) (λ spaced. refl))
@@ -494,7 +473,7 @@ module _ (effort : Effort) (rec : Wanted → Reader Tree) (S T : Wanted → Form
   reads_constant_name h = reads_map (λ name. name.text) (reads_constant effort h)
 
   begins_constant_name : (a : TokenLook) → (l.Constant ≡ a → ⊥) → Begins (seen a) (gr.constant_text T)
-  begins_constant_name a other = starts_bind _ (starts_holding (λ text. k.Constant text) l.Constant (λ text. refl) (other_look l.Constant a other))
+  begins_constant_name a other = starts_bind _ (starts_holding (λ text. k.Constant text) l.Constant (λ text. refl) (not_seen l.Constant a other))
 
   reads_names : Reads effort (f.listed (gr.constant_text S)) (f.listed (gr.constant_text T)) (either (seen l.Comma) never) (listed effort.turns (declarations.constant_name))
   reads_names = reads_listed (λ spaced. refl) (begins_constant_name l.Newline (λ e. cc)) (reads_constant_name never)
@@ -505,8 +484,8 @@ module _ (effort : Effort) (rec : Wanted → Reader Tree) (S T : Wanted → Form
       reads_enclosed _ reads_names.1
       (exact_parenthesized effort (f.listed (gr.constant_text S)) (f.listed (gr.constant_text T)) (either (seen l.Comma) never) _ reads_names.0
       (starts_bind _ (begins_constant_name l.Newline (λ e. cc))).first reads_names.1.0 reads_names.1.1 reads_names.1.2
-      (not_either (seen l.Comma) never (other_look l.Newline l.Comma (λ e. cc)) (λ spaced. refl))
-      (not_either (seen l.Comma) never (other_look l.CloseParenthesis l.Comma (λ e. cc)) (λ spaced. refl)))
+      (not_either _ (seen l.Comma) never (not_seen l.Newline l.Comma (λ e. cc)) (λ spaced. refl))
+      (not_either _ (seen l.Comma) never (not_seen l.CloseParenthesis l.Comma (λ e. cc)) (λ spaced. refl)))
 
   pub reads_superclass : Reads effort (f.maybe (f.◌>>◌ (f.word l.Less) (gr.constant_text S))) (f.maybe (f.◌>>◌ (f.word l.Less) (gr.constant_text T))) (either (seen l.Less) never)
       (optional (seen l.Less) (expect l.Less >> declarations.constant_name))
@@ -518,7 +497,7 @@ module _ (effort : Effort) (rec : Wanted → Reader Tree) (S T : Wanted → Form
     exact_stmts effort (gr.member S) (gr.member T) begins_member goes_listed _ (reads_part reads_member).0 starts_member.first (λ spaced. refl)
         (listed_not l.Newline (λ e. cc) (λ e. cc) (λ spaced. refl))
         g.goes_body (λ a spaced stop. (closed_line a spaced stop, closed_member a spaced stop, closed_listed a spaced stop)),
-    somehow_stmts _,
+    spelled_stmts _,
   )
 
   reads_module_members : Reads effort (f.stmts (module_member S)) (f.stmts (module_member T)) g.goes_body (stmts effort.turns begins_module_member (part (declarations.module_member effort.turns rec)))
@@ -526,7 +505,7 @@ module _ (effort : Effort) (rec : Wanted → Reader Tree) (S T : Wanted → Form
     exact_stmts effort (module_member S) (module_member T) begins_module_member never _ (reads_part reads_module_member).0 starts_module_member.first
         (λ spaced. refl) (λ spaced. refl)
         g.goes_body (λ a spaced stop. (closed_line a spaced stop, closed_module_member a spaced stop, refl)),
-    somehow_stmts _,
+    spelled_stmts _,
   )
 
   reads_class : Reads effort (gr.class S) (gr.class T) never (declarations.class effort.turns rec)
@@ -539,9 +518,9 @@ module _ (effort : Effort) (rec : Wanted → Reader Tree) (S T : Wanted → Form
       reads_bind reads_members (λ members.
       reads_map (λ _. _) (reads_word effort k.KeywordEnd never))
       (λ members. starts_bind _ (starts_word l.KeywordEnd (λ spaced. refl)))))
-      (λ superclass. starts_bind _ (starts_word l.Newline (not_either (seen l.Less) never (other_look l.Newline l.Less (λ e. cc)) (λ spaced. refl)))))
-      (λ parameters. starts_maybe _ (starts_bind _ (starts_word l.Less (not_tight l.Less l.OpenParenthesis (λ e. cc))))
-      (λ superclass. starts_bind _ (starts_word l.Newline (not_tight l.Newline l.OpenParenthesis (λ e. cc))))))))
+      (λ superclass. starts_bind _ (starts_word l.Newline (not_either _ (seen l.Less) never (not_seen l.Newline l.Less (λ e. cc)) (λ spaced. refl)))))
+      (λ parameters. starts_maybe _ (starts_bind _ (starts_word l.Less (not_tight_seen l.Less l.OpenParenthesis (other_look l.Less l.OpenParenthesis (λ e. cc)))))
+      (λ superclass. starts_bind _ (starts_word l.Newline (not_tight_seen l.Newline l.OpenParenthesis (other_look l.Newline l.OpenParenthesis (λ e. cc)))))))))
 
   reads_module : Reads effort (gr.module_of S) (gr.module_of T) never (declarations.module_of effort.turns rec)
   reads_module =
@@ -563,20 +542,20 @@ module _ (effort : Effort) (rec : Wanted → Reader Tree) (S T : Wanted → Form
   -- no statement of the top level begins with this look
   pub begins_stmt_not : (a : TokenLook) → begins_stmt top a ≡ false → Begins (seen a) (T (Stmt top))
   begins_stmt_not a not = record {
-    first = λ w x rest c. first_stops (begins_stmt top) (seen a) (not_seen a (begins_stmt top) not) w rest
+    first = λ w x rest c. tested false (begins_stmt top) (seen a) (look_apart (begins_stmt top) a not) w rest
         (given.stmt_begins top w x c);
   }
 
   pub reads_item : Reads effort (gr.item S) (gr.item T) g.goes_stmt (declarations.item effort.turns rec)
   reads_item =
       reads_choose (seen l.Class) (starts_class (at_seen l.Class))
-      (starts_or (starts_module (other_look l.Module l.Class (λ e. cc)))
-      (starts_or (starts_def false (other_look l.Def l.Class (λ e. cc))) (begins_stmt_not l.Class refl)))
+      (starts_or (starts_module (not_seen l.Module l.Class (λ e. cc)))
+      (starts_or (starts_def false (not_seen l.Def l.Class (λ e. cc))) (begins_stmt_not l.Class refl)))
       (reads_free g.goes_stmt reads_class)
-      (reads_choose (seen l.Module) (starts_module (at_seen l.Module)) (starts_or (starts_def false (other_look l.Def l.Module (λ e. cc)))
+      (reads_choose (seen l.Module) (starts_module (at_seen l.Module)) (starts_or (starts_def false (not_seen l.Def l.Module (λ e. cc)))
       (begins_stmt_not l.Module refl))
       (reads_free g.goes_stmt reads_module)
-      (reads_choose (seen l.Def) (starts_def false (at_seen l.Def)) (begins_stmt_not l.Def refl) (reads_free g.goes_stmt (reads_def false)) (reads_rec (Stmt top))))
+      (reads_choose (seen l.Def) (starts_def false (at_seen l.Def)) (begins_stmt_not l.Def refl) (reads_free g.goes_stmt (reads_def false)) (reads_rec effort rec S T given (Stmt top))))
 
   -- a statement begins an item
   item_of : (a : TokenLook) (spaced : Bool) → begins_stmt top a ≡ true → begins_item a spaced ≡ true
@@ -588,13 +567,13 @@ module _ (effort : Effort) (rec : Wanted → Reader Tree) (S T : Wanted → Form
   pub starts_item : Starts true begins_item (gr.item T)
   starts_item =
       starts_or (starts_class (λ spaced. refl)) (starts_or (starts_module (λ spaced. refl)) (starts_or (starts_def false (λ spaced. refl))
-      (record { first = λ w x rest c. first_passes (begins_stmt top) begins_item item_of w rest (given.stmt_begins top w x c) })))
+      (record { first = λ w x rest c. tested true (begins_stmt top) begins_item item_of w rest (given.stmt_begins top w x c) })))
 
   reads_items : Reads effort (f.stmts (gr.item S)) (f.stmts (gr.item T)) g.goes_body (stmts effort.turns begins_item (beside (declarations.item effort.turns rec)))
   reads_items = (
     exact_stmts effort (gr.item S) (gr.item T) begins_item g.goes_stmt _ (exact_beside _ reads_item.0) starts_item.first (λ spaced. refl) (λ spaced. refl)
         g.goes_body (λ a spaced stop. (closed_line a spaced stop, closed_item a spaced stop, closed_stmt a spaced stop)),
-    somehow_stmts _,
+    spelled_stmts _,
   )
 
   pub exact_program : Exact effort Any (gr.program S) (gr.program T) never (declarations.program effort.turns rec)

@@ -22,13 +22,14 @@ use Rattle.cr_grammar.proofs.Derive as derive
 use Rattle.cr_grammar.proofs.First as first
 use Rattle.cr_exact.specs.Reader.{State, Reader, Test, same_look, seen, beside, pure}
 use Rattle.cr_exact.specs.Exact.{Effort, Enough, Exact, Any}
-use Rattle.cr_exact.proofs.Sequence.{exact_bind, exact_pure, ends_less}
-use Rattle.cr_exact.proofs.Tokens.{a_token}
-use Rattle.cr_exact.proofs.Nodes.{exact_beside}
 use Rattle.cr_descent.specs.Goes as g
 use Rattle.cr_descent.specs.Descent.{reader, read}
 use Rattle.cr_descent.specs.Laws.{effort_of, ReadersAreExact}
-use Rattle.cr_descent.proofs.Begins.{spelled_nothing, follows_nothing}
+use Rattle.cr_exact.proofs.Sequence.{exact_bind, exact_pure, ends_less}
+use Rattle.cr_exact.proofs.Tokens.{a_token}
+use Rattle.cr_exact.proofs.Forms.{spelled_nothing}
+use Rattle.cr_exact.proofs.Follows.{follows_nothing}
+use Rattle.cr_exact.proofs.Nodes.{exact_beside}
 use Rattle.cr_descent.proofs.Bodies.{exact_statements}
 use Rattle.cr_descent.proofs.Apart.{apart, postfix_begins}
 use Rattle.cr_descent.proofs.Statements.{minus_look}
@@ -41,7 +42,7 @@ use Rattle.cr_descent.proofs.Simple.{exact_simple, exact_stmt}
 use Rattle.cr_descent.proofs.Declarations.{exact_program}
 use Rattle.cr_descent.proofs.StatementForms as forms
 use Rattle.cr_descent.proofs.StatementForms.{settled_front}
-use Rattle.cr_descent.proofs.Commands.{Settled, tight_nil, spaced_nil}
+use Rattle.cr_exact.proofs.TwoTokens.{Settled, tight_nil, spaced_nil}
 
 -- what is enough for less effort
 exact_effort : {A : Type 0} {Pre : List Token → Type 0} {R C : Form A} {goes : Test} {p : Reader A} (less more : Effort)

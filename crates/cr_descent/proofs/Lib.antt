@@ -1,11 +1,5 @@
-pub mod Lists
-pub mod LimitLists
-pub mod LimitClaims
-pub mod LimitTypes
 pub mod Operands
-pub mod Begins
 pub mod Words
-pub mod Steps
 pub mod OperationForms
 pub mod PostfixForms
 pub mod StatementForms
@@ -19,14 +13,16 @@ pub mod Literals
 pub mod Primaries
 pub mod Links
 pub mod Operations
-pub mod Commands
 pub mod Statements
 pub mod Simple
 pub mod Declarations
+pub mod LimitClaims
+pub mod LimitTypes
 pub mod Apart
 pub mod Knot
 pub mod Consequences
 pub mod LimitTable
+pub mod LimitNodes
 pub mod LimitBodies
 pub mod LimitCompounds
 pub mod LimitLiterals
@@ -34,7 +30,6 @@ pub mod LimitClasses
 pub mod LimitPrimaries
 pub mod LimitLinks
 pub mod LimitOperations
-pub mod LimitCommands
 pub mod LimitStatements
 pub mod LimitSimple
 pub mod LimitKnot

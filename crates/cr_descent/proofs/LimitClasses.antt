@@ -14,30 +14,34 @@ use Rattle.cr_grammar.specs.Forms as f
 use Rattle.cr_grammar.specs.Operators as o
 use Rattle.cr_grammar.specs.Wanted.{Wanted}
 use Rattle.cr_grammar.specs.Expressions as ex
-use Rattle.cr_exact.specs.Reader.{Reader, Test, tight_seen, never, allow, by_look, pure}
+use Rattle.cr_exact.specs.Reader.{Reader, Test, tight_seen, never, by_look, pure}
 use Rattle.cr_exact.specs.Exact.{Effort, Any}
 use Rattle.cr_exact.specs.Limits.{Tally, known, unknown, Counts, tall, size_of_all, top_of_all, if_some}
-use Rattle.cr_exact.proofs.Tokens.{Looks, clash}
-use Rattle.cr_exact.proofs.Limits.{counts_bind, counts_bind_quiet, counts_pure, counts_weaken, counts_map, counts_goes, counts_as, still_pure}
-use Rattle.cr_exact.proofs.LimitSteps.{counts_wrapped}
-use Rattle.cr_exact.proofs.LimitChoices.{Way, counts_by, counts_allowed, looks_same}
-use Rattle.cr_exact.proofs.LimitParts.{sum_cons, sum_append, tall_cons, tall_append, known_is}
 use Rattle.cr_descent.specs.Goes.{goes_type, goes_primary}
 use Rattle.cr_descent.specs.Types as read
 use Rattle.cr_descent.specs.Primaries as primaries
+use Rattle.cr_exact.proofs.TokenTests.{clash, stops_less}
+use Rattle.cr_exact.proofs.Tokens.{Looks}
+use Rattle.cr_exact.proofs.Heads.{led}
+use Rattle.cr_exact.proofs.Follows.{follows_bind, follows_never, follows_led, follows_nothing}
+use Rattle.cr_exact.proofs.Limits.{counts_bind, counts_bind_quiet, counts_pure, counts_weaken, counts_map, counts_goes, counts_as, still_pure}
+use Rattle.cr_exact.proofs.LimitSteps.{counts_wrapped}
+use Rattle.cr_exact.proofs.LimitChoices.{Way, counts_by, looks_same, way_where}
+use Rattle.cr_exact.proofs.LimitParts.{sum_cons, sum_append, tall_cons, tall_append, known_is}
+use Rattle.cr_exact.proofs.LimitLists.{counts_word}
 use Rattle.cr_descent.proofs.Words.{exact_exactly_ident}
-use Rattle.cr_descent.proofs.Begins as b
 use Rattle.cr_descent.proofs.Claims as claims
 use Rattle.cr_descent.proofs.Types.{atom_less, exact_atom}
-use Rattle.cr_descent.proofs.Bodies.{exact_arguments}
+use Rattle.cr_descent.proofs.Bodies.{exact_arguments, parenthesis_less}
 use Rattle.cr_descent.proofs.Classes as classes
 use Rattle.cr_descent.proofs.LimitClaims as limits
 use Rattle.cr_descent.proofs.LimitTable as table
 use Rattle.cr_descent.proofs.LimitTable.{part_height}
-use Rattle.cr_descent.proofs.LimitTypes.{parts_high, counts_atom_alone}
+use Rattle.cr_descent.proofs.LimitTypes.{counts_atom_alone}
 use Rattle.cr_descent.proofs.LimitTypes as types
+use Rattle.cr_descent.proofs.LimitBodies as block
 use Rattle.cr_descent.proofs.LimitBodies.{counts_plain, counts_arguments}
-use Rattle.cr_descent.proofs.LimitLiterals.{maybe_high, counts_behind}
+use Rattle.cr_descent.proofs.LimitNodes.{parts_high, maybe_high}
 
 -- ---- the nodes of `A.new`
 
@@ -69,12 +73,6 @@ new_nests at class question arguments (Some x) =
     let e = tall_cons (nesting x) [] in
     omega (arith, a, c, d, e)
 
-block_are : (body : List Tree) → nodes (tree.Block [] body) ≡ sum (map nodes body)
-block_are body = grind (arith, the_lemmas)
-
-block_nests : (body : List Tree) → nesting (tree.Block [] body) ≡ tall (map nesting body)
-block_nests body = grind (arith, the_lemmas)
-
 -- What is counted of the class, the arguments and the block is counted of the whole.
 new_told : (n at : ℕ) (class : Tree) (question : Bool) (arguments : List Tree) (block : Option Tree)
     → let x = tree.New at class question arguments block in
@@ -90,11 +88,7 @@ new_told n at class question arguments block =
 -- the parts of a body are those of the block
 block_told : (n h : ℕ) (body : List Tree) → 0 < h
     → known (n + size_of_all nodes body) (max h (top_of_all part_height body)) ≡ known (n + nodes (tree.Block [] body)) (max h (part_height (tree.Block [] body)))
-block_told n h body some =
-    let a = block_are body in
-    let c = block_nests body in
-    let d = parts_high h body some in
-    known_is _ _ _ _ (omega (arith, a)) (omega (arith, c, d))
+block_told n h body some = known_is _ _ _ _ (omega arith) (omega arith) ∙ sym (block.block_told n h [] body some)
 
 -- the arguments are an empty list where no parentheses stand
 pub listed_are : (found : Option (List Tree)) → if_some (size_of_all nodes) found ≡ size_of_all nodes (primaries.listed_of found)
@@ -104,12 +98,6 @@ listed_are (Some xs) = refl
 pub listed_nest : (found : Option (List Tree)) → if_some (top_of_all part_height) found ≡ top_of_all part_height (primaries.listed_of found)
 listed_nest None = refl
 listed_nest (Some xs) = refl
-
--- where a condition holds that has nothing to do with the tokens
-pub way_where : {A : Type 0} (look : TokenLook) (c : Bool) (C : Form A) (g : Test) (p : Reader A) (from : Tally) (to : A → Tally)
-    → (c ≡ true → Counts (Looks look) C g from to p) → Way look (f.where_true c C) g from to (allow c p)
-way_where _ true C g p from to cp = inl (counts_allowed true C g p (cp refl))
-way_where _ false C g p from to cp = inr (refl, λ w x led c. clash refl c.0)
 
 module _ (effort : Effort) (rec : Wanted → Reader Tree) (S T : Wanted → Form Tree) (given : claims.Given effort rec S T) (counts : limits.GivenCounts rec T) (within : Within) (free : Bool) where
   abbrev turns : ℕ
@@ -134,7 +122,7 @@ module _ (effort : Effort) (rec : Wanted → Reader Tree) (S T : Wanted → Form
       (counts_plain effort rec S T given counts within free n h)
       (λ body. counts_pure (Some (tree.Block [] body)) never _ (with_block n h) (sym (block_told n h body some)))
       (λ body. (still_pure (Some (tree.Block [] body))).lets)
-      (λ body. b.follows_never (nothing (Some (tree.Block [] body))) never))
+      (λ body. follows_never (nothing (Some (tree.Block [] body))) never))
   counts_block path false is n h some =
       counts_map (ex.new_block T within free path) (classes.no_block effort rec S T given within free path (λ same. clash is (classes.path_same _ _ same)))
       (counts_pure None never (known n h) (with_block n h) (known_is _ _ _ _ (omega arith) (omega arith)))
@@ -166,10 +154,10 @@ module _ (effort : Effort) (rec : Wanted → Reader Tree) (S T : Wanted → Form
       (counts_block class.path.names _ refl (m + if_some (size_of_all nodes) found) (max h (if_some (top_of_all part_height) found)) (omega arith))
       (λ block. counts_pure (last_of found block) goes _ (told n) (last_told n class at found block))
       (λ block. (still_pure (last_of found block)).lets)
-      (λ block. b.follows_never (nothing (last_of found block)) goes))
-      (λ found. b.follows_bind (tight_seen l.OpenParenthesis) goes (ex.new_block T within free class.path.names) (λ block. nothing (last_of found block))
+      (λ block. follows_never (nothing (last_of found block)) goes))
+      (λ found. follows_bind (tight_seen l.OpenParenthesis) goes (ex.new_block T within free class.path.names) (λ block. nothing (last_of found block))
       (classes.block_follows effort rec S T given within free class.path.names)
-      (λ block. b.follows_nothing (tight_seen l.OpenParenthesis) goes (last_of found block) (classes.parenthesis_less effort rec S T given within free)))) where
+      (λ block. follows_nothing (tight_seen l.OpenParenthesis) goes (last_of found block) (parenthesis_less free)))) where
         last_told : (n : ℕ) (class : ex.Atom) (at : ℕ) (found : Option (List Tree)) (block : Option Tree)
             → told n (new_of class at (primaries.listed_of found) block)
             ≡ with_block (n + nodes (ex.atom_tree class) + 1 + if_some (size_of_all nodes) found) (max (nesting (ex.atom_tree class) + 1) (if_some (top_of_all part_height) found)) block
@@ -181,7 +169,7 @@ module _ (effort : Effort) (rec : Wanted → Reader Tree) (S T : Wanted → Form
   counts_made : (n : ℕ) (class : ex.Atom) → Counts Any (classes.made_tail effort rec S T given within free T class) goes (behind n class) (told n) (primaries.made turns rec within free class)
   counts_made n class =
       counts_wrapped (new_behind class) goes (λ at. at) (classes.new_reader effort rec S T given within free class) (told n) (λ t x e. sym e.1) (exact_exactly_ident effort never o.new_name)
-      (λ at. b.follows_never (new_behind class at) goes) (n + nodes (ex.atom_tree class)) (nesting (ex.atom_tree class)) (λ at. counts_new_end n class at)
+      (λ at. follows_never (new_behind class at) goes) (n + nodes (ex.atom_tree class)) (nesting (ex.atom_tree class)) (λ at. counts_new_end n class at)
 
   -- ---- `yield`
 
@@ -202,7 +190,7 @@ module _ (effort : Effort) (rec : Wanted → Reader Tree) (S T : Wanted → Form
   counts_pause : (n : ℕ) (class : ex.Atom) → is_fiber class ≡ true
       → Counts Any (classes.pause_tail effort rec S T given within free class) goes (behind n class) (told n) (primaries.pause turns rec within free class)
   counts_pause n class is =
-      counts_behind effort k.Yield (λ _. nothing (tree.Pause class.path.at)) goes (λ _. pure (tree.Pause class.path.at)) (behind n class) (told n)
+      counts_word effort k.Yield (λ _. nothing (tree.Pause class.path.at)) goes (λ _. pure (tree.Pause class.path.at))
       (λ _. counts_pure (tree.Pause class.path.at) goes (behind n class) (told n) (pause_told n class (classes.fiber_is effort rec S T given within free class is).1))
 
   -- ---- the one or the other, behind an atom and its `.`
@@ -235,7 +223,7 @@ module _ (effort : Effort) (rec : Wanted → Reader Tree) (S T : Wanted → Form
 
   counts_class : (n : ℕ) → Counts Any (ex.atom T true) goes_type (unknown n) (behind n) (read.atom turns rec true)
   counts_class n =
-      counts_goes goes_type (b.stops_less (types.goes_atom effort rec S T given counts) goes_type (atom_less effort rec S T given))
+      counts_goes goes_type (stops_less (types.goes_atom effort rec S T given counts) goes_type (atom_less effort rec S T given))
       (counts_as (behind n) (class_told n) (counts_atom_alone effort rec S T given counts true n))
 
   -- ---- the whole
@@ -247,8 +235,8 @@ module _ (effort : Effort) (rec : Wanted → Reader Tree) (S T : Wanted → Form
   counts_whole n =
       counts_map (f.◌<|>◌ (ex.made T within free) (ex.pause T within free)) (classes.back effort rec S T given within free)
       (counts_bind behind_atom goes _ (told n) (exact_atom effort rec S T given true) (counts_class n)
-      (λ class. counts_behind effort k.Dot (λ _. tail class) goes (λ _. by_look (primaries.made_by turns rec within free class)) (behind n class) (told n) (λ _. counts_tail n class))
-      (λ class. b.follows_led l.Dot goes_type goes (behind_atom class) (λ spaced. refl) (b.led l.Dot _)))
+      (λ class. counts_word effort k.Dot (λ _. tail class) goes (λ _. by_look (primaries.made_by turns rec within free class)) (λ _. counts_tail n class))
+      (λ class. follows_led l.Dot goes_type goes (behind_atom class) (λ spaced. refl) (led l.Dot _)))
 
 module _ (effort : Effort) (rec : Wanted → Reader Tree) (S T : Wanted → Form Tree) (given : claims.Given effort rec S T) (counts : limits.GivenCounts rec T) where
   pub counts_of_class : (within : Within) (free : Bool) → table.OfClass effort rec T within free

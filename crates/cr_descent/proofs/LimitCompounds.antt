@@ -1,9 +1,8 @@
 -- What is counted in `if`, `while`, `case` and `select`.
-use Rattle.std.proofs.Common.{◌≡◌, ℕ, ◌+◌, ◌<◌, max, Bool, true, false, List, [], ◌∷◌, ◌++◌, map, Option, Some, None, refl, sym, ap, subst, ◌∙◌, arith}
+use Rattle.std.proofs.Common.{◌≡◌, ℕ, ◌+◌, ◌<◌, max, Bool, true, false, List, [], ◌∷◌, ◌++◌, map, Option, Some, None, refl, ap, ◌∙◌, arith}
 use Rattle.std.specs.Prelude.{sum}
 use Rattle.cr_syntax.specs.declared.look.TokenLook.{TokenLook}
 use Rattle.cr_syntax.specs.declared.look.TokenLook.TheVariants as l
-use Rattle.cr_syntax.specs.declared.token.Token.{Token}
 use Rattle.cr_syntax.specs.declared.token.TokenKind.{TokenKind}
 use Rattle.cr_syntax.specs.declared.token.TokenKind.TheVariants as k
 use Rattle.cr_syntax.specs.Look.{look_of}
@@ -17,65 +16,32 @@ use Rattle.cr_grammar.specs.Wanted.{Wanted, Written, When, Simple, in_loop}
 use Rattle.cr_grammar.specs.Expressions as ex
 use Rattle.cr_exact.specs.Reader.{Reader, Test, either, seen, never, expect, pure, part, grow, ◌>>=◌, ◌>>◌}
 use Rattle.cr_exact.specs.Reader as r
-use Rattle.cr_exact.specs.Exact.{Stops, Effort, Any}
-use Rattle.cr_exact.specs.Limits.{Tally, known, unknown, Counts, Still, Rises, tall, size_of_all, top_of_all, if_some}
-use Rattle.cr_exact.proofs.Sequence.{weaken}
-use Rattle.cr_exact.proofs.Tokens.{Passing, exact_word}
-use Rattle.cr_exact.proofs.Loops.{stops_right}
-use Rattle.cr_exact.proofs.Nodes.{exact_part}
-use Rattle.cr_exact.proofs.Limits.{counts_bind, counts_bind_quiet, counts_pure, counts_silent, counts_weaken, still_pure, still_choose}
-use Rattle.cr_exact.proofs.LimitSteps.{counts_grown}
-use Rattle.cr_exact.proofs.LimitChoices.{passing_same}
-use Rattle.cr_exact.proofs.LimitParts.{sum_cons, sum_append, tall_cons, tall_append, known_is, rises_part, rises_pure, rises_many}
+use Rattle.cr_exact.specs.Exact.{Effort, Any}
+use Rattle.cr_exact.specs.Limits.{Tally, known, Still, Rises, tall, size_of_all, top_of_all, if_some}
 use Rattle.cr_descent.specs.Goes as g
 use Rattle.cr_descent.specs.Bodies as bodies
 use Rattle.cr_descent.specs.Compounds as compounds
-use Rattle.cr_descent.proofs.Lists as lists
-use Rattle.cr_descent.proofs.Lists.{Not}
-use Rattle.cr_descent.proofs.Steps.{Begins, Starts, starts_word, starts_bind, starts_or, starts_nothing, starts_many, other_look, at_seen, Reads, reads_word, reads_separators, reads_part, reads_listed, reads_pure, reads_many, reads_some}
+use Rattle.cr_exact.proofs.TokenTests.{stops_right, seen_apart, Not, not_seen, at_seen}
+use Rattle.cr_exact.proofs.Sequence.{weaken}
+use Rattle.cr_exact.proofs.Tokens.{Passing}
+use Rattle.cr_exact.proofs.Forms.{made_out}
+use Rattle.cr_exact.proofs.Heads.{heads_halts, led_heads, many_stop}
+use Rattle.cr_exact.proofs.Nodes.{exact_part}
+use Rattle.cr_exact.proofs.Steps.{Begins, Starts, starts_word, starts_bind, starts_or, starts_nothing, starts_many, Reads, reads_separators, reads_part, reads_listed, reads_pure, reads_many, reads_some}
+use Rattle.cr_exact.proofs.Limits.{counts_bind, counts_weaken, still_choose}
+use Rattle.cr_exact.proofs.LimitChoices.{passing_same}
+use Rattle.cr_exact.proofs.LimitParts.{sum_cons, sum_append, tall_cons, tall_append, known_is, rises_part, rises_pure, rises_many}
+use Rattle.cr_exact.proofs.LimitLists.{still_word, still_separators, counts_end, rises_listed_parts, rises_above, counts_word, counts_begun, counts_made}
+use Rattle.cr_exact.proofs.LimitReads.{counts_then, counts_past, counts_over}
 use Rattle.cr_descent.proofs.Compounds as c
 use Rattle.cr_descent.proofs.Claims as claims
 use Rattle.cr_descent.proofs.LimitClaims as limits
 use Rattle.cr_descent.proofs.LimitTable as table
 use Rattle.cr_descent.proofs.LimitTable.{part_height, ManyParts}
-use Rattle.cr_descent.proofs.LimitLists.{still_word, still_separators, counts_end, rises_listed_parts}
-use Rattle.cr_descent.proofs.LimitTypes.{parts_high}
 use Rattle.cr_descent.proofs.LimitBodies as b
-use Rattle.cr_descent.proofs.LimitBodies.{rises_above}
+use Rattle.cr_descent.proofs.LimitNodes.{parts_high}
 
 -- ---- one after the other
-
--- where the second always begins with a token by which the first does not go on
-pub counts_then : {effort : Effort} {A B : Type 0} {R C : Form A} {g : Test} {p : Reader A} {D : A → Form B} {h : Test} {q : A → Reader B} {from : Tally} {mid : A → Tally} {to : B → Tally}
-    → Reads effort R C g p → Counts Any C g from mid p → ((x : A) → Counts Any (D x) h (mid x) to (q x)) → ((x : A) → Begins g (D x))
-    → Counts Any (f.◌>>=◌ C D) h from to (p >>= q)
-counts_then {D = D} {h = h} {q = q} {to = to} first cp cq begins =
-    counts_bind D h q to first.0 cp cq (λ x b y rest d stop. (begins x).first b y rest d)
-
--- where the first counts nothing
-pub counts_past : {effort : Effort} {A B : Type 0} {R C : Form A} {g : Test} {p : Reader A} {D : A → Form B} {h : Test} {q : A → Reader B} {from : Tally} {to : B → Tally}
-    → Reads effort R C g p → Still p → ((x : A) → Counts Any (D x) h from to (q x)) → ((x : A) → Begins g (D x))
-    → Counts Any (f.◌>>=◌ C D) h from to (p >>= q)
-counts_past {C = C} {g = g} {from = from} first still cq begins = counts_then first (counts_silent C g from still) cq begins
-
--- where the first counts nothing and goes on by nothing
-pub counts_over : {effort : Effort} {A B : Type 0} {R C : Form A} {p : Reader A} {D : A → Form B} {h : Test} {q : A → Reader B} {from : Tally} {to : B → Tally}
-    → Reads effort R C never p → Still p → ((x : A) → Counts Any (D x) h from to (q x)) → Counts Any (f.◌>>=◌ C D) h from to (p >>= q)
-counts_over first still cq = counts_past first still cq (λ x. record { first = λ b y rest d. lists.never_stops (b ++ rest) })
-
--- a value made of what was read
-pub counts_made : {A B : Type 0} {C : Form A} {g : Test} {p : Reader A} {from : Tally} {mid : A → Tally} {to : B → Tally} (make : A → B)
-    → Counts Any C g from mid p → ((x : A) → to (make x) ≡ mid x) → Counts Any (f.◌>>=◌ C (λ x. nothing (make x))) g from to (p >>= λ x. pure (make x))
-counts_made {g = g} {mid = mid} {to = to} make cp is =
-    counts_bind_quiet (λ x. nothing (make x)) g (λ x. pure (make x)) to cp (λ x. counts_pure (make x) g (mid x) to (is x)) (λ x. (still_pure (make x)).lets)
-    (λ x b y rest d stop. subst (λ (v : List Token). Stops g (v ++ rest)) (sym d.0) stop)
-
--- a word that makes a node, and the parts of this
-pub counts_begun : (effort : Effort) (kind : TokenKind) {B : Type 0} {D : ℕ → Form B} {r : ℕ → Reader B} {to : B → Tally} (n : ℕ)
-    → ((at : ℕ) → Counts Any (D at) never (known (n + 1) 1) to (r at))
-    → Counts Any (f.◌>>=◌ (word (look_of kind)) D) never (unknown n) to (expect (look_of kind) >>= λ at. grow at >> r at)
-counts_begun effort kind {D = D} {r = r} {to = to} n cr =
-    counts_grown D never (λ at. at) r to (λ t x c. sym c.1) (exact_word effort kind never) (λ at b y rest d stop. lists.never_stops (b ++ rest)) n cr
 
 -- R { R }
 pub rises_some : {effort : Effort} {A : Type 0} {R C : Form A} {g : Test} {p : Reader A} (look : TokenLook) (size top : A → ℕ) → Not look g → Starts true (seen look) C → Reads effort R C g p
@@ -83,11 +49,11 @@ pub rises_some : {effort : Effort} {A : Type 0} {R C : Form A} {g : Test} {p : R
 rises_some {effort = effort} {A = A} {R = R} {C = C} {g = g} {p = p} look size top not heads first rp n height =
     counts_bind (λ x. f.◌>>=◌ (many C) (λ xs. nothing (x ∷ xs))) h (λ x. r.many (seen look) p effort.turns >>= λ xs. pure (x ∷ xs)) to first.0 (rp n height)
     (λ x. counts_made (λ xs. x ∷ xs)
-    (rises_many effort (seen look) g (lists.seen_apart look g not) R C p (weaken _ first.0) heads.first size top
+    (rises_many effort (seen look) g (seen_apart look g not) R C p (weaken _ first.0) heads.first size top
     (λ m high. counts_weaken (Passing (seen look)) (passing_same (seen look)) (rp m high)) effort.turns (n + size x) (max height (top x)))
     (λ xs. let a = sum_cons (size x) (map size xs) in let b = tall_cons (top x) (map top xs) in known_is _ _ _ _ (omega (arith, a)) (omega (arith, b))))
-    (λ x b y rest d stop. let a = lists.alone (many C) (λ xs. x ∷ xs) b y d in
-    lists.many_stop g C (lists.heads_halts (seen look) g C heads.first (lists.seen_apart look g not)) b a.0 rest a.1 (stops_right (seen look) g rest stop)) where
+    (λ x b y rest d stop. let a = made_out (many C) (λ xs. x ∷ xs) b y d in
+    many_stop g C (heads_halts (seen look) g C heads.first (seen_apart look g not)) b a.0 rest a.1 (stops_right (seen look) g rest stop)) where
       h : Test
       h = either (seen look) g
 
@@ -249,9 +215,9 @@ module _ (effort : Effort) (rec : Wanted → Reader Tree) (S T : Wanted → Form
   module _ (within : Within) (free : Bool) where
     looping : (kind : TokenKind) (until : Bool) → limits.Trees (ex.looping_of T within free (look_of kind) until) never (compounds.looping effort.turns rec within free (look_of kind) until)
     looping kind until n =
-        counts_begun effort kind n (λ at.
+        counts_begun effort kind _ n (λ at.
         counts_then (reads_simple (in_loop within)) (rises_simple (in_loop within) (n + 1) 1) (λ condition.
-        counts_over (reads_word effort k.Newline never) (still_word l.Newline) (λ _.
+        counts_word effort k.Newline _ _ _ (λ _.
         counts_then (c.reads_body effort rec S T given (in_loop within)) (rises_body (in_loop within) (n + 1 + nodes condition) (max 1 (part_height condition))) (λ body.
         counts_end l.KeywordEnd (tree.While at until condition body) never _ (counted n) (while_told n at until condition body))
         (λ body. c.begins_end effort rec S T given g.goes_body (λ spaced. refl) _)))
@@ -259,7 +225,7 @@ module _ (effort : Effort) (rec : Wanted → Reader Tree) (S T : Wanted → Form
 
     elsif : limits.Parts (ex.elsif T within free) g.goes_body (compounds.elsif effort.turns rec within free)
     elsif n height =
-        counts_over (reads_word effort k.Elsif never) (still_word l.Elsif) (λ _.
+        counts_word effort k.Elsif _ _ _ (λ _.
         counts_then (reads_simple within) (rises_simple within n height) (λ condition.
         counts_over (c.reads_then effort rec S T given) still_then (λ _.
         counts_made (λ body. tree.Branch condition body) (rises_body within (n + nodes condition) (max height (part_height condition))) (λ body. branch_told n height condition body)))
@@ -272,7 +238,7 @@ module _ (effort : Effort) (rec : Wanted → Reader Tree) (S T : Wanted → Form
         → ((D : List Tree → Form Tree) → ((xs : List Tree) → Begins g.goes_body (D xs)) → Begins g.goes_body (f.◌>>=◌ C D))
         → limits.Trees (ex.conditional_of T within free (look_of kind) unless C) never (compounds.conditional effort.turns rec within free (look_of kind) unless)
     conditional kind unless R C others rises_others begins_others n =
-        counts_begun effort kind n (λ at.
+        counts_begun effort kind _ n (λ at.
         counts_then (reads_simple within) (rises_simple within (n + 1) 1) (λ condition.
         counts_over (c.reads_then effort rec S T given) still_then (λ _.
         counts_then (c.reads_body effort rec S T given within) (rises_body within _ _) (λ body.
@@ -288,18 +254,18 @@ module _ (effort : Effort) (rec : Wanted → Reader Tree) (S T : Wanted → Form
 
     branches : ManyParts (many (ex.elsif T within free)) (either (seen l.Elsif) g.goes_body) (compounds.branches effort.turns rec within free false)
     branches =
-        rises_many effort (seen l.Elsif) g.goes_body (lists.seen_apart l.Elsif g.goes_body (λ spaced. refl)) (ex.elsif S within free) (ex.elsif T within free) (compounds.elsif effort.turns rec within free)
-        (weaken _ (c.elsif effort rec S T given within free).0) (lists.led_heads l.Elsif _) nodes part_height
+        rises_many effort (seen l.Elsif) g.goes_body (seen_apart l.Elsif g.goes_body (λ spaced. refl)) (ex.elsif S within free) (ex.elsif T within free) (compounds.elsif effort.turns rec within free)
+        (weaken _ (c.elsif effort rec S T given within free).0) (led_heads l.Elsif _) nodes part_height
         (λ n height. counts_weaken (Passing (seen l.Elsif)) (passing_same (seen l.Elsif)) (elsif n height)) effort.turns
 
     in_clause : limits.Parts (ex.in_clause T within free) g.goes_body (compounds.in_clause effort.turns rec within free)
     in_clause =
         let some = given.some (Written false) in
         rises_above nodes part_height (λ n height positive.
-        counts_over (reads_word effort k.In never) (still_word l.In) (λ _.
+        counts_word effort k.In _ _ _ (λ _.
         counts_then (reads_listed (λ spaced. refl) (c.types_lineless effort rec S T given within free) (reads_part (c.reads_rec effort rec S T given (Written false))))
         (rises_listed_parts effort (S (Written false)) (T (Written false)) g.goes_type (part (rec (Written false))) (exact_part (rec (Written false)) (given.exact (Written false)))
-        (c.types_lineless effort rec S T given within free).first some.0 some.1 some.2 (lists.seen_apart l.Comma g.goes_type (λ spaced. refl))
+        (c.types_lineless effort rec S T given within free).first some.0 some.1 some.2 (seen_apart l.Comma g.goes_type (λ spaced. refl))
         nodes part_height (rises_part nodes nesting (counts.written false)) n height) (λ types.
         counts_over (c.reads_then effort rec S T given) still_then (λ _.
         counts_made (λ body. tree.In types body) (rises_body within _ _) (λ body. in_told n height types body positive)))
@@ -323,22 +289,22 @@ module _ (effort : Effort) (rec : Wanted → Reader Tree) (S T : Wanted → Form
   counts_cases within free n =
       let clause = c.in_clause effort rec S T given within free in
       let begins : Starts true (seen l.In) (ex.in_clause T within free) = starts_bind _ (starts_word l.In (at_seen l.In)) in
-      counts_begun effort k.Case n (λ at.
+      counts_begun effort k.Case _ n (λ at.
       counts_then (reads_simple within) (rises_simple within (n + 1) 1) (λ value.
-      counts_over (reads_word effort k.Newline never) (still_word l.Newline) (λ _.
+      counts_word effort k.Newline _ _ _ (λ _.
       counts_past (reads_separators effort) (still_separators effort.turns) (λ _.
       counts_then (reads_some l.In (λ spaced. refl) begins clause) (rises_some l.In nodes part_height (λ spaced. refl) begins clause (in_clause within free) _ _) (λ clauses.
       counts_end l.KeywordEnd (tree.Case at value clauses) never _ (counted n) (case_told n at value clauses))
       (λ clauses. c.begins_end effort rec S T given (either (seen l.In) g.goes_body) (c.end_in effort rec S T given) _))
-      (λ _. starts_bind _ (starts_bind _ (starts_bind _ (starts_word l.In (other_look l.In l.Newline (λ e. cc))))))))
+      (λ _. starts_bind _ (starts_bind _ (starts_bind _ (starts_word l.In (not_seen l.In l.Newline (λ e. cc))))))))
       (λ value. starts_bind _ (starts_word l.Newline (λ spaced. refl))))
 
   pub counts_select : (within : Within) (free : Bool) → table.Select effort rec T within free
   counts_select within free n =
       let clause = c.reads_rec effort rec S T given (When within free) in
       let begins = c.when_heads effort rec S T given within free in
-      counts_begun effort k.Select n (λ at.
-      counts_over (reads_word effort k.Newline never) (still_word l.Newline) (λ _.
+      counts_begun effort k.Select _ n (λ at.
+      counts_word effort k.Newline _ _ _ (λ _.
       counts_past (reads_separators effort) (still_separators effort.turns) (λ _.
       counts_then (reads_some l.When (λ spaced. refl) begins clause) (rises_some l.When nodes part_height (λ spaced. refl) begins clause (counts.when within free) (n + 1) 1) (λ clauses.
       counts_then (c.reads_otherwise effort rec S T given within) (rises_otherwise within _ _) (λ otherwise.

@@ -1,8 +1,8 @@
 -- What each construct counts, however deep: the counts are tied into a knot, as the readers are.
-use Rattle.std.proofs.Common.{◌≡◌, ℕ, zero, suc, ◌+◌, ◌≤◌, false, List, [], ◌++◌, refl, sym, ap, ◌∙◌, arith}
+use Rattle.std.proofs.Common.{◌≡◌, ℕ, zero, suc, ◌≤◌, false, List, [], ◌++◌, refl, sym, ap, ◌∙◌, arith}
 use Rattle.std.proofs.lemmas.List.{append-nil, append_cancel_right}
 use Rattle.cr_syntax.specs.declared.token.Token.{Token}
-use Rattle.cr_grammar.specs.declared.tree.Tree.{Tree, the_lemmas}
+use Rattle.cr_grammar.specs.declared.tree.Tree.{Tree}
 use Rattle.cr_grammar.specs.declared.tree.Tree.TheVariants as tree
 use Rattle.cr_grammar.specs.declared.within.Within.{Within}
 use Rattle.cr_grammar.specs.Count.{nodes, nesting}
@@ -13,27 +13,28 @@ use Rattle.cr_grammar.specs.Grammar.{Spells_in}
 use Rattle.cr_exact.specs.declared.fault.ParseFault.TheVariants.{TooDeep, TooManyNodes}
 use Rattle.cr_exact.specs.Reader.{State, Reader, beside, pure}
 use Rattle.cr_exact.specs.Exact.{Effort, Any}
-use Rattle.cr_exact.specs.Limits.{Tally, known, unknown, Counted, Counts, AtMost, size_of_all, top_of_all}
-use Rattle.cr_exact.proofs.Limits.{counts_map, counts_bind_quiet, counts_pure, still_pure, still_give_up}
-use Rattle.cr_exact.proofs.LimitParts.{known_is, rises_beside}
-use Rattle.cr_exact.proofs.Nodes.{exact_beside}
+use Rattle.cr_exact.specs.Limits.{Counted, Counts, AtMost}
 use Rattle.cr_descent.specs.Goes as g
 use Rattle.cr_descent.specs.Descent.{reader, read, list_of}
 use Rattle.cr_descent.specs.Laws.{effort_of}
-use Rattle.cr_descent.specs.LimitLaws.{counted_before, counted_behind, ReadersCount, BeginsLimited, IsLimited, height_with, FoundIsCounted, TooDeepHasNoWay, TooManyHasNoWay}
+use Rattle.cr_descent.specs.LimitLaws.{counted_before, counted_behind, ReadersCount, BeginsLimited, IsLimited, FoundIsCounted, TooDeepHasNoWay, TooManyHasNoWay}
+use Rattle.cr_exact.proofs.Follows.{follows_nothing}
+use Rattle.cr_exact.proofs.Nodes.{exact_beside}
+use Rattle.cr_exact.proofs.Limits.{counts_map, counts_bind_quiet, counts_pure, still_pure, still_give_up}
+use Rattle.cr_exact.proofs.LimitParts.{rises_beside}
+use Rattle.cr_exact.proofs.LimitLists.{rises_stmts}
 use Rattle.cr_descent.proofs.Claims as claims
 use Rattle.cr_descent.proofs.LimitClaims as limits
 use Rattle.cr_descent.proofs.LimitTypes.{counts_written}
-use Rattle.cr_descent.proofs.LimitBodies.{rises_stmts}
 use Rattle.cr_descent.proofs.Bodies as bodies
-use Rattle.cr_descent.proofs.Begins.{follows_nothing}
 use Rattle.cr_descent.proofs.LimitLinks.{counts_when}
 use Rattle.cr_descent.proofs.LimitOperations.{counts_unary, counts_or}
 use Rattle.cr_descent.proofs.LimitSimple.{counts_simple, counts_stmt}
 use Rattle.cr_descent.proofs.LimitDeclarations.{counts_program}
 use Rattle.cr_descent.proofs.Knot.{given_of, exact_read, or_settled, signed, nil_or}
 use Rattle.cr_descent.proofs.Apart.{apart}
-use Rattle.cr_descent.proofs.Commands.{spaced_nil}
+use Rattle.cr_exact.proofs.TwoTokens.{spaced_nil}
+use Rattle.cr_descent.proofs.LimitNodes.{statements_told}
 
 abbrev CountsOf : Wanted → Form Tree → Reader Tree → Type 0
 CountsOf wanted C p = (n height : ℕ) → Counts Any C (g.goes_of wanted) (counted_before wanted n height) (counted_behind wanted n height) p
@@ -58,12 +59,6 @@ given_counts rec T counts = record {
   stmt = λ within n. counts (Stmt within) n 0;
 }
 
-statements_are : (list : List Tree) → nodes (tree.Statements list) ≡ size_of_all nodes list
-statements_are list = grind (arith, the_lemmas)
-
-statements_nest : (list : List Tree) → nesting (tree.Statements list) ≡ top_of_all nesting list
-statements_nest list = grind (arith, the_lemmas)
-
 -- a list of statements by itself
 counts_list : (effort : Effort) (rec : Wanted → Reader Tree) (S T : Wanted → Form Tree) (given : claims.Given effort rec S T) (counts : limits.GivenCounts rec T) (within : Within)
     → CountsOf (Stmts within) (gr.rule T (Stmts within)) (list_of effort.turns rec within)
@@ -73,7 +68,7 @@ counts_list effort rec S T given counts within n height =
     (bodies.stmt_heads effort rec S T given within) (λ spaced. refl) (λ spaced. refl) g.goes_body (bodies.body_ends within)
     nodes nesting (rises_beside nodes nesting (counts.stmt within)) n height)
     (λ list. counts_pure (tree.Statements list) g.goes_body _ (counted_behind (Stmts within) n height)
-    (known_is _ _ _ _ (let a = statements_are list in omega (arith, a)) (let a = statements_nest list in omega (arith, a))))
+    (statements_told n height list))
     (λ list. (still_pure (tree.Statements list)).lets)
     (λ list. follows_nothing g.goes_body g.goes_body (tree.Statements list) (λ look spaced e. e))
 

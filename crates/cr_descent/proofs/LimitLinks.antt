@@ -1,5 +1,5 @@
 -- What is counted in a postfix, and in a clause of `select`.
-use Rattle.std.proofs.Common.{◌≡◌, ℕ, ◌+◌, ◌<◌, max, Bool, true, false, List, [], ◌∷◌, ◌++◌, map, inl, inr, refl, sym, ap, subst, ◌∙◌, arith}
+use Rattle.std.proofs.Common.{◌≡◌, ℕ, ◌+◌, max, Bool, true, false, List, ◌∷◌, ◌++◌, map, inl, inr, refl, sym, ap, subst, ◌∙◌, arith}
 use Rattle.std.specs.Prelude.{sum, Option, Some, None, is_some}
 use Rattle.std.specs.Str.{bytes_eq}
 use Rattle.cr_syntax.specs.declared.look.TokenLook.{TokenLook}
@@ -15,40 +15,44 @@ use Rattle.cr_grammar.specs.Laws.{begins_type, begins_or}
 use Rattle.cr_grammar.specs.Operators as names
 use Rattle.cr_grammar.specs.Wanted.{Wanted, Written, Or}
 use Rattle.cr_grammar.specs.Expressions as ex
-use Rattle.cr_exact.specs.Reader.{Reader, Test, refuse, seen, tight_seen, never, expect, choose, only, by_look, repeated, part, pure, ◌>>=◌, ◌>>◌}
+use Rattle.cr_exact.specs.Reader.{Reader, Test, seen, tight_seen, never, expect, choose, only, by_look, repeated, part, pure, ◌>>=◌, ◌>>◌}
 use Rattle.cr_exact.specs.Lists.{optional, separators}
 use Rattle.cr_exact.specs.Lists as lists
 use Rattle.cr_exact.specs.Exact.{Effort, Any}
 use Rattle.cr_exact.specs.Limits.{Tally, known, Counts, Still, Rises, tall, size_of_all, top_of_all, if_some}
-use Rattle.cr_exact.proofs.Tokens.{Passing as Passes, Failing, not_found, by_first, exact_word}
-use Rattle.cr_exact.proofs.Nodes.{exact_part}
-use Rattle.cr_exact.proofs.Limits.{counts_bind, counts_bind_quiet, counts_still_then, counts_pure, counts_silent, counts_weaken, counts_map, counts_goes, still_pure, still_bind, still_choose, still_refuse}
-use Rattle.cr_exact.proofs.LimitSteps.{counts_wrapped}
-use Rattle.cr_exact.proofs.LimitChoices.{Way, passing_same, failing_same, looks_same, counts_choose, counts_only, counts_by, counts_allowed}
-use Rattle.cr_exact.proofs.LimitLoops.{counts_repeated}
-use Rattle.cr_exact.proofs.LimitParts.{sum_cons, sum_append, tall_cons, tall_append, known_is, rises_part}
 use Rattle.cr_descent.specs.Goes as g
 use Rattle.cr_descent.specs.Bodies as bodies
 use Rattle.cr_descent.specs.Operand.{Operand, Name, Field, Passing, Whole, whole, linked, indexed}
 use Rattle.cr_descent.specs.Links as links
 use Rattle.cr_descent.specs.Primaries.{listed_of}
-use Rattle.cr_descent.proofs.Lists.{never_stops, not_seen, exact_separators}
+use Rattle.cr_exact.proofs.TokenTests.{never_stops, not_seen, look_apart, stops_less}
+use Rattle.cr_exact.proofs.Tokens.{Passing as Passes, Failing, by_first, exact_word}
+use Rattle.cr_exact.proofs.Forms.{made_in}
+use Rattle.cr_exact.proofs.Heads.{Halts, led_seen, first_tested, led, first_bind, led_first}
+use Rattle.cr_exact.proofs.Follows.{follows_bind, follows_ahead, follows_nothing}
+use Rattle.cr_exact.proofs.Nodes.{exact_part}
+use Rattle.cr_exact.proofs.Lists.{exact_separators}
+use Rattle.cr_exact.proofs.Limits.{counts_bind, counts_bind_quiet, counts_still_then, counts_pure, counts_silent, counts_weaken, counts_map, counts_goes, still_pure, still_bind, still_choose}
+use Rattle.cr_exact.proofs.LimitSteps.{counts_wrapped}
+use Rattle.cr_exact.proofs.LimitChoices.{Way, passing_same, failing_same, looks_same, counts_choose, counts_only, counts_by, counts_allowed, counts_refuse}
+use Rattle.cr_exact.proofs.LimitLoops.{counts_repeated}
+use Rattle.cr_exact.proofs.LimitParts.{sum_cons, sum_append, tall_cons, tall_append, known_is, rises_part}
+use Rattle.cr_exact.proofs.LimitLists.{still_word, still_separators, still_optional, counts_parenthesized, counts_tight}
 use Rattle.cr_descent.proofs.Words.{exact_ident}
-use Rattle.cr_descent.proofs.Begins as begins
 use Rattle.cr_descent.proofs.Claims as claims
 use Rattle.cr_descent.proofs.Operands as operands
-use Rattle.cr_descent.proofs.PostfixForms.{whole_linked, whole_indexed, tree_postfix, made_back, is_receive}
-use Rattle.cr_descent.proofs.Bodies.{exact_then, exact_arguments}
+use Rattle.cr_descent.proofs.PostfixForms.{whole_linked, whole_indexed, tree_postfix, is_receive}
+use Rattle.cr_descent.proofs.Bodies.{exact_then, exact_arguments, block_less, parenthesis_less}
 use Rattle.cr_descent.proofs.Primaries.{exact_primary}
 use Rattle.cr_descent.proofs.Links as exact
 use Rattle.cr_descent.proofs.Links.{exact_postfix}
 use Rattle.cr_descent.proofs.LimitClaims as limits
 use Rattle.cr_descent.proofs.LimitTable as table
 use Rattle.cr_descent.proofs.LimitTable.{part_height}
-use Rattle.cr_descent.proofs.LimitLists.{still_word, still_separators, still_optional, counts_parenthesized, counts_tight}
-use Rattle.cr_descent.proofs.LimitTypes.{parts_high}
 use Rattle.cr_descent.proofs.LimitBodies.{counts_body, counts_maybe_block, counts_plain, counts_inside, counts_arguments}
 use Rattle.cr_descent.proofs.LimitPrimaries.{counts_primary}
+use Rattle.cr_descent.proofs.LimitNodes.{told as tree_told, parts_high, held, held_sum, held_high, call_nodes, call_nesting}
+use Rattle.cr_descent.proofs.LimitClasses.{listed_are, listed_nest}
 
 -- ---- the nodes of links and of clauses
 
@@ -76,20 +80,6 @@ index_is at x arguments question = search the_lemmas
 index_nests : (at : ℕ) (x : Tree) (arguments : List Tree) (question : Bool) → nesting (tree.Index at x arguments question) ≡ 1 + tall (nesting x ∷ map nesting arguments)
 index_nests at x arguments question = search the_lemmas
 
-abbrev of_some : (Tree → ℕ) → Option Tree → List ℕ
-of_some count None = []
-of_some count (Some x) = count x ∷ []
-
-call_is : (at : ℕ) (x : Tree) (name : List ℕ) (arguments : List Tree) (block : Option Tree)
-    → nodes (tree.Call at (Some x) name arguments block) ≡ 1 + sum (nodes x ∷ (map nodes arguments ++ of_some nodes block))
-call_is at x name arguments None = search the_lemmas
-call_is at x name arguments (Some block) = search the_lemmas
-
-call_nests : (at : ℕ) (x : Tree) (name : List ℕ) (arguments : List Tree) (block : Option Tree)
-    → nesting (tree.Call at (Some x) name arguments block) ≡ 1 + tall (nesting x ∷ (map nesting arguments ++ of_some nesting block))
-call_nests at x name arguments None = search the_lemmas
-call_nests at x name arguments (Some block) = search the_lemmas
-
 nothing_on : (n : ℕ) → 0 + n ≡ n
 nothing_on n = omega arith
 
@@ -99,11 +89,11 @@ when_into_is target operation body = search the_lemmas
 when_into_nests : (target operation : Tree) (body : List Tree) → nesting (tree.When (Some target) operation body) ≡ 0 + tall (nesting target ∷ (nesting operation ∷ map nesting body))
 when_into_nests target operation body = search the_lemmas
 
-when_is : (target : Option Tree) (operation : Tree) (body : List Tree) → nodes (tree.When target operation body) ≡ sum (of_some nodes target ++ (nodes operation ∷ map nodes body))
+when_is : (target : Option Tree) (operation : Tree) (body : List Tree) → nodes (tree.When target operation body) ≡ sum (held nodes target ++ (nodes operation ∷ map nodes body))
 when_is None operation body = grind (arith, the_lemmas)
 when_is (Some target) operation body = when_into_is target operation body ∙ nothing_on _
 
-when_nests : (target : Option Tree) (operation : Tree) (body : List Tree) → nesting (tree.When target operation body) ≡ tall (of_some nesting target ++ (nesting operation ∷ map nesting body))
+when_nests : (target : Option Tree) (operation : Tree) (body : List Tree) → nesting (tree.When target operation body) ≡ tall (held nesting target ++ (nesting operation ∷ map nesting body))
 when_nests None operation body = grind (arith, the_lemmas)
 when_nests (Some target) operation body = when_into_nests target operation body ∙ nothing_on _
 
@@ -112,43 +102,24 @@ when_nests (Some target) operation body = when_into_nests target operation body 
 abbrev told : ℕ → Operand → Tally
 told n z = known (n + nodes (whole z)) (nesting (whole z))
 
-abbrev tree_told : ℕ → Tree → Tally
-tree_told n x = known (n + nodes x) (nesting x)
-
-arguments_are : (arguments : Option (List Tree)) → sum (map nodes (listed_of arguments)) ≡ if_some (size_of_all nodes) arguments
-arguments_are None = refl
-arguments_are (Some arguments) = refl
-
-arguments_nest : (height : ℕ) (arguments : Option (List Tree)) → 0 < height
-    → max height (if_some (top_of_all part_height) arguments) ≡ max height (tall (map nesting (listed_of arguments)) + 1)
-arguments_nest height None some = omega (arith, some)
-arguments_nest height (Some arguments) some = parts_high height arguments some
-
-held_is : (block : Option Tree) → sum (of_some nodes block) ≡ if_some nodes block
-held_is None = refl
-held_is (Some block) = omega arith
-
-held_nests : (height : ℕ) (block : Option Tree) → 0 < height → max height (if_some part_height block) ≡ max height (tall (of_some nesting block) + 1)
-held_nests height None some = omega (arith, some)
-held_nests height (Some block) some = omega arith
-
 linked_told : (n : ℕ) (x : Tree) (name : Word) (arguments : Option (List Tree)) (block : Option Tree)
     → told n (linked x name arguments block)
     ≡ known (n + nodes x + 1 + if_some (size_of_all nodes) arguments + if_some nodes block) (max (max (nesting x + 1) (if_some (top_of_all part_height) arguments)) (if_some part_height block))
 linked_told n x name arguments block =
     let listed = listed_of arguments in
-    let a = call_is name.at x name.text listed block in
-    let b = sum_cons (nodes x) (map nodes listed ++ of_some nodes block) in
-    let c = sum_append (map nodes listed) (of_some nodes block) in
-    let d = arguments_are arguments in
-    let e = held_is block in
-    let a' = call_nests name.at x name.text listed block in
-    let b' = tall_cons (nesting x) (map nesting listed ++ of_some nesting block) in
-    let c' = tall_append (map nesting listed) (of_some nesting block) in
-    let d' = arguments_nest (nesting x + 1) arguments (omega arith) in
-    let e' = held_nests (nesting x + 1) block (omega arith) in
+    let a = call_nodes name.at (Some x) name.text listed block in
+    let b = sum_cons (nodes x) (map nodes listed ++ held nodes block) in
+    let c = sum_append (map nodes listed) (held nodes block) in
+    let d = listed_are arguments in
+    let e = held_sum block in
+    let a' = call_nesting name.at (Some x) name.text listed block in
+    let b' = tall_cons (nesting x) (map nesting listed ++ held nesting block) in
+    let c' = tall_append (map nesting listed) (held nesting block) in
+    let d' = listed_nest arguments in
+    let h' = parts_high (nesting x + 1) listed (omega arith) in
+    let e' = held_high (nesting x + 1) block (omega arith) in
     ap (λ v. tree_told n v) (whole_linked x name arguments block)
-    ∙ known_is _ _ _ _ (omega (arith, a, b, c, d, e)) (omega (arith, a', b', c', d', e'))
+    ∙ known_is _ _ _ _ (omega (arith, a, b, c, d, e)) (omega (arith, a', b', c', d', e', h'))
 
 indexed_told : (n at : ℕ) (x : Tree) (arguments : List Tree) (question : Option ℕ)
     → told n (indexed at x arguments question) ≡ known (n + nodes x + 1 + size_of_all nodes arguments) (max (nesting x + 1) (top_of_all part_height arguments))
@@ -190,24 +161,15 @@ when_told : (n height : ℕ) (target : Option Tree) (operation : Tree) (body : L
     (max (max (max height (if_some part_height target)) (part_height operation)) (top_of_all part_height body))
 when_told n height target operation body =
     let a = when_is target operation body in
-    let b = sum_append (of_some nodes target) (nodes operation ∷ map nodes body) in
+    let b = sum_append (held nodes target) (nodes operation ∷ map nodes body) in
     let c = sum_cons (nodes operation) (map nodes body) in
-    let d = held_is target in
+    let d = held_sum target in
     let a' = when_nests target operation body in
-    let b' = tall_append (of_some nesting target) (nesting operation ∷ map nesting body) in
+    let b' = tall_append (held nesting target) (nesting operation ∷ map nesting body) in
     let c' = tall_cons (nesting operation) (map nesting body) in
-    let d' = held_nests (max height (part_height operation)) target (omega arith) in
+    let d' = held_high (max height (part_height operation)) target (omega arith) in
     let e' = parts_high (max (max height (if_some part_height target)) (part_height operation)) body (omega arith) in
     known_is _ _ _ _ (omega (arith, a, b, c, d)) (omega (arith, a', b', c', d', e'))
-
--- what is refused at once counts nothing
-counts_refuse : {A : Type 0} (goes : Test) (from : Tally) (to : A → Tally) → Counts Any (λ w x. ⊥) goes from to refuse
-counts_refuse goes from to = record {
-  same = λ a b e pre. tt;
-  grows = λ w x c. absurd c;
-  found = λ s x s' pre is e. absurd (not_found s x s' e);
-  stopped = λ s e n s' pre is failed limit. absurd (still_refuse.lets s e n s' failed limit);
-}
 
 module _ (effort : Effort) (rec : Wanted → Reader Tree) (S T : Wanted → Form Tree) (given : claims.Given effort rec S T) (counts : limits.GivenCounts rec T) where
   module _ (within : Within) (free : Bool) where
@@ -231,10 +193,10 @@ module _ (effort : Effort) (rec : Wanted → Reader Tree) (S T : Wanted → Form
           (counts_maybe_block effort rec S T given counts within free (n + nodes x + 1 + if_some (size_of_all nodes) arguments) (max (nesting x + 1) (if_some (top_of_all part_height) arguments)))
           (λ block. counts_pure (linked x name arguments block) goes _ (told n) (linked_told n x name arguments block))
           (λ block. (still_pure (linked x name arguments block)).lets)
-          (λ block. begins.follows_nothing (bodies.begins_block turns rec free) goes (linked x name arguments block) (exact.less_block effort rec S T given within free)))
-          (λ arguments. begins.follows_bind (tight_seen l.OpenParenthesis) goes (maybe (ex.block T within free)) (λ block. nothing (linked x name arguments block))
+          (λ block. follows_nothing (bodies.begins_block turns rec free) goes (linked x name arguments block) (block_less turns rec free)))
+          (λ arguments. follows_bind (tight_seen l.OpenParenthesis) goes (maybe (ex.block T within free)) (λ block. nothing (linked x name arguments block))
           (exact.block_follows effort rec S T given within free)
-          (λ block. begins.follows_nothing (tight_seen l.OpenParenthesis) goes (linked x name arguments block) (exact.less_arguments effort rec S T given within free))))
+          (λ block. follows_nothing (tight_seen l.OpenParenthesis) goes (linked x name arguments block) (parenthesis_less free))))
 
       counts_asked : Counts Any (exact.asked T within free x) goes (tree_told n x) (told n) (links.asked turns rec within free x)
       counts_asked =
@@ -246,7 +208,7 @@ module _ (effort : Effort) (rec : Wanted → Reader Tree) (S T : Wanted → Form
           (counts_tight l.OpenParenthesis
           (counts_parenthesized effort (S (Written false)) (T (Written false)) g.goes_type (part (rec (Written false)))
           (exact_part (rec (Written false)) (given.exact (Written false)))
-          (begins.ahead_first begins_type (seen l.Newline) (T (Written false)) (begins.apart_seen begins_type l.Newline refl) (given.type_begins false))
+          (first_tested false begins_type (seen l.Newline) (T (Written false)) (look_apart begins_type l.Newline refl) (given.type_begins false))
           (λ spaced. refl) (λ spaced. refl)
           (known (n + nodes x + 1) (nesting x + 1)) (λ of. known (n + nodes x + 1 + nodes of) (max (nesting x + 1) (nesting of + 1)))
           (rises_part nodes nesting (counts.written false) (n + nodes x + 1) (nesting x + 1)))))
@@ -308,10 +270,10 @@ module _ (effort : Effort) (rec : Wanted → Reader Tree) (S T : Wanted → Form
           (counts_closing at)
           (λ arguments. (still_closing at arguments).lets)
           (exact.separated_follows effort rec S T given within free x at))
-          (λ _. begins.follows_ahead (seen l.Newline) goes (exact.indices_of T within free x at) (begins.ahead_bind (seen l.Newline) (ex.inside T within free) _
-          (begins.ahead_bind (seen l.Newline) (T (Or within true)) _ value_ahead)))) where
-            value_ahead : begins.Ahead (seen l.Newline) (T (Or within true))
-            value_ahead = begins.ahead_first (begins_or within) (seen l.Newline) (T (Or within true)) (begins.apart_seen (begins_or within) l.Newline refl) (given.or_begins within true)
+          (λ _. follows_ahead (seen l.Newline) goes (exact.indices_of T within free x at) (first_bind false (seen l.Newline) (ex.inside T within free) _
+          (first_bind false (seen l.Newline) (T (Or within true)) _ value_ahead)))) where
+            value_ahead : Halts (seen l.Newline) (T (Or within true))
+            value_ahead = first_tested false (begins_or within) (seen l.Newline) (T (Or within true)) (look_apart (begins_or within) l.Newline refl) (given.or_begins within true)
 
       -- ---- any link
 
@@ -339,8 +301,8 @@ module _ (effort : Effort) (rec : Wanted → Reader Tree) (S T : Wanted → Form
           (expect l.Dot >> by_look (links.behind_dot turns rec within free x)) (links.at_index turns rec within free x)
           (counts_weaken (Passes (seen l.Dot)) (passing_same (seen l.Dot)) counts_dotted)
           (counts_weaken (Failing (seen l.Dot)) (failing_same (seen l.Dot)) counts_index)
-          (λ w o rest c. begins.led_seen l.Dot w rest (begins.led l.Dot (λ _. by_first (exact.behind_by T within free x)) w o c))
-          (λ w o rest c stop. begins.led_stops l.OpenBracket (seen l.Dot) (not_seen l.OpenBracket l.Dot (λ e. cc)) w rest (exact.led_index T within free x w o c))
+          (λ w o rest c. led_seen l.Dot w rest (led l.Dot (λ _. by_first (exact.behind_by T within free x)) w o c))
+          (λ w o rest c stop. led_first false l.OpenBracket (seen l.Dot) (not_seen l.OpenBracket l.Dot (λ e. cc)) w rest (exact.led_index T within free x w o c))
 
     abbrev is_link : Test
     is_link = links.is_link turns rec within free
@@ -354,7 +316,7 @@ module _ (effort : Effort) (rec : Wanted → Reader Tree) (S T : Wanted → Form
   counts_postfix within free n =
       counts_bind (f.repeated (operands.link T within free)) (g.goes_operand free) (repeated (links.is_link effort.turns rec within free) (links.link effort.turns rec within free) effort.turns) (told n)
       (exact_primary effort rec S T given within free) (counts_primary effort rec S T given counts within free n)
-      (λ x. counts_goes (g.goes_operand free) (begins.stops_less _ (g.goes_operand free) (exact.less_postfix effort rec S T given within free))
+      (λ x. counts_goes (g.goes_operand free) (stops_less _ (g.goes_operand free) (exact.less_postfix effort rec S T given within free))
       (counts_repeated effort (is_link within free) (goes within free) (exact.link_apart effort rec S T given within free) (operands.link S within free) (operands.link T within free)
       (links.link effort.turns rec within free) (exact.exact_link effort rec S T given within free) (λ z w o rest c. exact.link_passes effort rec S T given within free z w o rest c)
       (told n) (counts_link within free n) effort.turns x))
@@ -364,12 +326,12 @@ module _ (effort : Effort) (rec : Wanted → Reader Tree) (S T : Wanted → Form
   counts_postfix_tree within free n =
       counts_map (ex.postfix T within free)
       (λ w x c. let r = tree_postfix T within free w x c in
-      subst (λ y. (f.◌>>=◌ (operands.postfix T within free) (λ o. nothing (whole o))) w y) r.2 (made_back (operands.postfix T within free) whole w r.0 r.1))
+      subst (λ y. (f.◌>>=◌ (operands.postfix T within free) (λ o. nothing (whole o))) w y) r.2 (made_in (operands.postfix T within free) whole w r.0 r.1))
       (counts_bind_quiet (λ o. nothing (whole o)) (g.goes_operand free) (λ o. pure (whole o)) (tree_told n)
       (counts_postfix within free n)
       (λ o. counts_pure (whole o) (g.goes_operand free) (told n o) (tree_told n) refl)
       (λ o. (still_pure (whole o)).lets)
-      (λ o. begins.follows_nothing (g.goes_operand free) (g.goes_operand free) (whole o) (λ look spaced e. e)))
+      (λ o. follows_nothing (g.goes_operand free) (g.goes_operand free) (whole o) (λ look spaced e. e)))
 
   -- ---- a clause of `select`
 
@@ -402,7 +364,7 @@ module _ (effort : Effort) (rec : Wanted → Reader Tree) (S T : Wanted → Form
         (counts_body effort rec S T given counts within (n + if_some nodes target + nodes operation) (max (max height (if_some part_height target)) (part_height operation)))
         (λ body. counts_pure (tree.When target operation body) g.goes_body _ clause_told (when_told n height target operation body))
         (λ body. (still_pure (tree.When target operation body)).lets)
-        (λ body. begins.follows_nothing g.goes_body g.goes_body (tree.When target operation body) (λ look spaced e. e)))
+        (λ body. follows_nothing g.goes_body g.goes_body (tree.When target operation body) (λ look spaced e. e)))
         (λ _ b y rest d stop. never_stops (b ++ rest))
 
     -- what was read is a receive, or no clause

@@ -1,14 +1,11 @@
 -- What is counted in numbers, texts, arrays and hashes.
-use Rattle.std.proofs.Common.{◌≡◌, ℕ, ◌+◌, ◌<◌, max, Bool, true, false, cond, List, [], ◌∷◌, ◌++◌, map, Option, Some, None, inl, inr, refl, sym, ap, subst, ◌∙◌, append_assoc, arith}
+use Rattle.std.proofs.Common.{◌≡◌, ℕ, ◌+◌, max, Bool, true, false, List, [], ◌∷◌, ◌++◌, map, Option, Some, None, inl, inr, refl, sym, ap, subst, ◌∙◌, append_assoc, arith}
 use Rattle.std.specs.Prelude.{sum}
 use Rattle.std.proofs.lemmas.List.{append-nil}
 use Rattle.std.proofs.lemmas.Simd.{map-map}
-use Rattle.cr_syntax.specs.declared.look.TokenLook.{TokenLook}
 use Rattle.cr_syntax.specs.declared.look.TokenLook.TheVariants as l
 use Rattle.cr_syntax.specs.declared.token.Token.{Token}
-use Rattle.cr_syntax.specs.declared.token.TokenKind.{TokenKind}
 use Rattle.cr_syntax.specs.declared.token.TokenKind.TheVariants as k
-use Rattle.cr_syntax.specs.Look.{look_of}
 use Rattle.cr_grammar.specs.declared.tree.Tree.{Tree, the_lemmas}
 use Rattle.cr_grammar.specs.declared.tree.Tree.TheVariants as tree
 use Rattle.cr_grammar.specs.declared.within.Within.{Within}
@@ -16,134 +13,45 @@ use Rattle.cr_grammar.specs.Count.{nodes, nesting}
 use Rattle.cr_grammar.specs.Forms.{Form, Word, nothing}
 use Rattle.cr_grammar.specs.Forms as f
 use Rattle.cr_grammar.specs.Wanted.{Wanted, Written, Or}
-use Rattle.cr_grammar.specs.Laws.{begins_type, begins_or}
+use Rattle.cr_grammar.specs.Laws.{begins_type}
 use Rattle.cr_grammar.specs.Expressions as ex
-use Rattle.cr_exact.specs.Reader.{State, Reader, Test, and_then, passes, seen, same_look, either, never, expect, holder, choose, many, pure, take, grow, part, ◌>>=◌, ◌>>◌}
+use Rattle.cr_exact.specs.Reader.{Reader, Test, seen, same_look, either, never, expect, holder, many, pure, part, ◌>>=◌, ◌>>◌}
 use Rattle.cr_exact.specs.Lists.{optional, unless_closed, separators, listed}
 use Rattle.cr_exact.specs.Exact.{Effort, Exact, Any}
-use Rattle.cr_exact.specs.Limits.{Tally, known, Counted, Beyond, AtMost, Counts, Whole, Rises, tall, size_of_all, top_of_all, if_some}
-use Rattle.cr_exact.proofs.Sequence.{weaken}
-use Rattle.cr_exact.proofs.Tokens.{Passing, Failing, exact_word}
-use Rattle.cr_exact.proofs.Nodes.{exact_part}
-use Rattle.cr_exact.proofs.Limits.{counts_bind, counts_bind_quiet, counts_still_then, counts_pure, counts_silent, counts_weaken, counts_map, still_pure, still_take, still_bind}
-use Rattle.cr_exact.proofs.LimitSteps.{counts_grown}
-use Rattle.cr_exact.proofs.LimitChoices.{counts_choose, passing_same, failing_same}
-use Rattle.cr_exact.proofs.LimitParts.{sum_cons, sum_append, tall_cons, tall_append, known_is, rises_part, rises_many, rises_optional}
+use Rattle.cr_exact.specs.Limits.{Tally, known, Counts, Rises, tall, size_of_all, top_of_all, if_some}
 use Rattle.cr_descent.specs.Goes.{goes_type, goes_or, goes_primary}
 use Rattle.cr_descent.specs.Words as w
 use Rattle.cr_descent.specs.Bodies as bodies
 use Rattle.cr_descent.specs.Primaries as primaries
-use Rattle.cr_descent.proofs.Lists.{NoLine, Not, no_seps, seps_append, seps_halts, exact_separators, seen_apart}
+use Rattle.cr_exact.proofs.TokenTests.{Not, seen_apart, Less, look_apart}
+use Rattle.cr_exact.proofs.Sequence.{weaken}
+use Rattle.cr_exact.proofs.Tokens.{exact_word}
+use Rattle.cr_exact.proofs.Forms.{no_seps, seps_append, bind_out}
+use Rattle.cr_exact.proofs.Heads.{NoLine, seps_halts, led, led_at, first_bind, led_bind, led_seen, first_tested, led_first, LedBy}
+use Rattle.cr_exact.proofs.Follows.{Follows, follows_ahead, follows_nothing, follows_never, follows_led, follows_bind, follows_many, follows_or}
+use Rattle.cr_exact.proofs.Nodes.{exact_part}
+use Rattle.cr_exact.proofs.Closed.{empty_or_in}
+use Rattle.cr_exact.proofs.Limits.{counts_bind, counts_bind_quiet, counts_still_then, counts_pure, counts_silent, counts_weaken, counts_map, still_pure, still_take, still_bind, counts_as_spelled}
+use Rattle.cr_exact.proofs.LimitSteps.{counts_grown}
+use Rattle.cr_exact.proofs.LimitChoices.{passing_same}
+use Rattle.cr_exact.proofs.LimitParts.{sum_cons, tall_cons, known_is, rises_part, rises_many, rises_optional, sum_last, tall_last}
+use Rattle.cr_exact.proofs.LimitLists.{rises_listed_parts, counts_word, rises_behind, counts_separated, counts_once, counts_one}
 use Rattle.cr_descent.proofs.Words as words
-use Rattle.cr_descent.proofs.Begins as b
 use Rattle.cr_descent.proofs.Claims as claims
-use Rattle.cr_descent.proofs.Bodies.{exact_inside}
+use Rattle.cr_descent.proofs.Bodies.{exact_inside, or_halts}
 use Rattle.cr_descent.proofs.Literals as literals
 use Rattle.cr_descent.proofs.LimitClaims as limits
 use Rattle.cr_descent.proofs.LimitTable.{part_height}
-use Rattle.cr_descent.proofs.LimitLists.{still_word, still_separators, rises_listed_parts}
-use Rattle.cr_descent.proofs.LimitTypes.{parts_high}
 use Rattle.cr_descent.proofs.LimitBodies.{counts_inside}
-
--- ---- other tallies, other readers
-
--- the same counts, named otherwise for all that is spelled
-pub counts_as_spelled : {effort : Effort} {A : Type 0} {Pre : List Token → Type 0} {R C : Form A} {g : Test} {from : Tally} {to : A → Tally} {p : Reader A} (other : A → Tally)
-    → Exact effort Pre R C g p → ((w : List Token) (x : A) → R w x → to x ≡ other x) → ((w : List Token) (x : A) → C w x → to x ≡ other x)
-    → Counts Pre C g from to p → Counts Pre C g from other p
-counts_as_spelled {from = from} other ep found complete c = record {
-  same = c.same;
-  grows = λ w x d. subst (AtMost from) (complete w x d) (c.grows w x d);
-  found = λ s x s' pre counted e.
-      let F = c.found s x s' pre counted e in
-      let P = ep.found s x s' pre e in
-      (subst (λ v. Counted v s') (found P.front x P.spelled) F.0, F.1);
-  stopped = λ s e n s' pre counted failed limit.
-      let H = c.stopped s e n s' pre counted failed limit in
-      record {
-        front = H.front;
-        some = H.some;
-        parts = H.parts;
-        place = H.place;
-        beyond = λ w rest more y d whole next stop. subst (λ v. Beyond e s.depth v) (complete w y d) (H.beyond w rest more y d whole next stop);
-      };
-}
-
--- the same reader, written otherwise
-pub counts_same : {A : Type 0} {Pre : List Token → Type 0} {C : Form A} {g : Test} {from : Tally} {to : A → Tally} (p q : Reader A) → ((s : State) → p s ≡ q s)
-    → Counts Pre C g from to p → Counts Pre C g from to q
-counts_same {A = A} {Pre = Pre} {C = C} {g = g} {from = from} {to = to} p q same cp =
-    let path : p ≡ q = λ i s. same s i in
-    subst (λ (r : Reader A). Counts Pre C g from to r) path cp
-
--- ---- behind a word
-
-pub counts_behind : (effort : Effort) {B : Type 0} (kind : TokenKind) (D : ℕ → Form B) (h : Test) (q : ℕ → Reader B) (from : Tally) (to : B → Tally)
-    → ((at : ℕ) → Counts Any (D at) h from to (q at)) → Counts Any (f.◌>>=◌ (f.word (look_of kind)) D) h from to (expect (look_of kind) >>= q)
-counts_behind effort kind D h q from to cq =
-    counts_bind D h q to (exact_word effort kind never) (counts_silent (f.word (look_of kind)) never from (still_word (look_of kind))) cq (λ at. b.follows_never (D at) h)
-
-pub rises_behind : (effort : Effort) {A : Type 0} (kind : TokenKind) (C : Form A) (g : Test) (p : Reader A) (size top : A → ℕ)
-    → Rises size top Any C g p → Rises size top Any (f.◌>>◌ (f.word (look_of kind)) C) g (expect (look_of kind) >> p)
-rises_behind effort kind C g p size top rp n h =
-    counts_behind effort kind (λ _. C) g (λ _. p) (known n h) (λ x. known (n + size x) (max h (top x))) (λ _. rp n h)
-
--- behind separators
-pub counts_separated : (effort : Effort) {B : Type 0} (D : Form B) (h : Test) (q : Reader B) (from : Tally) (to : B → Tally)
-    → b.Follows (seen l.Newline) D h → Counts Any D h from to q → Counts Any (f.◌>>◌ f.seps D) h from to (separators effort.turns >> q)
-counts_separated effort D h q from to follows cq =
-    counts_bind (λ _. D) h (λ _. q) to (exact_separators effort) (counts_silent f.seps (seen l.Newline) from (still_separators effort.turns)) (λ _. cq) (λ _. follows)
-
--- ---- one token, whose node is all that is counted
-
-pub counts_one : {effort : Effort} {A B : Type 0} {P : Token → A → Type 0} {C : Form A} {read : Token → Option A} (place : A → ℕ) (make : A → B) (h : Test) (size high : B → ℕ)
-    → ((t : Token) (x : A) → P t x → t.span.first ≡ place x) → Exact effort Any (f.one P) C never (take read)
-    → ((x : A) → size (make x) ≡ 1) → ((x : A) → high (make x) ≡ 1)
-    → Whole size high Any (f.◌>>=◌ C (λ x. nothing (make x))) h (take read >>= λ x. grow (place x) >> pure (make x))
-counts_one place make h size high is ep ones flat n =
-    counts_grown (λ x. nothing (make x)) h place (λ x. pure (make x)) (λ y. known (n + size y) (high y)) is ep (λ x. b.follows_never (nothing (make x)) h) n
-    (λ x. counts_pure (make x) h (known (n + 1) 1) (λ y. known (n + size y) (high y))
-    (let a = ones x in known_is (n + size (make x)) (n + 1) (high (make x)) 1 (omega (arith, a)) (flat x)))
-
--- ---- [ R ] before a closing token
-
-choice_first : {A B : Type 0} (c : Bool) (p q : Reader A) (k : A → Reader B) (s : State) → cond c (p >>= k) (q >>= k) s ≡ and_then (cond c p q s) k
-choice_first true p q k s = refl
-choice_first false p q k s = refl
-
--- E is spelled where it is closed at once.
-pub counts_once : {effort : Effort} {A B : Type 0} (close : TokenLook) (R C : Form (List A)) (g : Test) (p : Reader (List A)) (E : Form B) (N : List A → Form B) (h : Test) (k : List A → Reader B)
-    (from : Tally) (mid : List A → Tally) (to : B → Tally) → Exact effort Any R C g p → Counts Any C g from mid p → ((xs : List A) → Counts Any (N xs) h (mid xs) to (k xs)) → Counts Any E h from to (k [])
-    → b.LedBy close E → b.Ahead (seen close) C → ((xs : List A) → b.Follows g (N xs) h)
-    → Counts Any (f.◌<|>◌ E (f.◌>>=◌ C N)) h from to (unless_closed close p >>= k)
-counts_once close R C g p E N h k from mid to ep cp ck ce closes ahead follows =
-    counts_same (choose (seen close) (k []) (p >>= k)) (unless_closed close p >>= k) (λ s. choice_first (passes (seen close) s.rest) (pure []) p k s)
-    (counts_choose (seen close) E (f.◌>>=◌ C N) h (k []) (p >>= k)
-    (counts_weaken (Passing (seen close)) (passing_same (seen close)) ce)
-    (counts_weaken (Failing (seen close)) (failing_same (seen close)) (counts_bind N h k to ep cp ck follows))
-    (λ w y rest d. b.led_seen close w rest (closes w y d))
-    (λ w y rest d stop. b.ahead_bind (seen close) C N ahead w y rest d))
+use Rattle.cr_descent.proofs.LimitNodes.{node_told, node_with_told}
 
 -- ---- the nodes of a literal
-
--- What is counted of a node part by part is counted of it as a whole.
-pub node_told : (n : ℕ) (x : Tree) (parts : List Tree) → nodes x ≡ 1 + sum (map nodes parts) → nesting x ≡ 1 + tall (map nesting parts)
-    → known (n + nodes x) (nesting x) ≡ known (n + 1 + size_of_all nodes parts) (max 1 (top_of_all part_height parts))
-node_told n x parts many high =
-    let a = parts_high 1 parts (omega arith) in
-    known_is _ _ _ _ (omega (arith, many)) (omega (arith, high, a))
 
 insertions_are : (at : ℕ) (texts : List (List ℕ)) (inserted : List Tree) → nodes (tree.Insertions at texts inserted) ≡ 1 + sum (map nodes inserted)
 insertions_are at texts inserted = search the_lemmas
 
 insertions_nest : (at : ℕ) (texts : List (List ℕ)) (inserted : List Tree) → nesting (tree.Insertions at texts inserted) ≡ 1 + tall (map nesting inserted)
 insertions_nest at texts inserted = search the_lemmas
-
-pub sum_last : (xs : List ℕ) (x : ℕ) → sum (xs ++ x ∷ []) ≡ sum xs + x
-sum_last xs x = let a = sum_append xs (x ∷ []) in let b = sum_cons x [] in omega (arith, a, b)
-
-pub tall_last : (xs : List ℕ) (x : ℕ) → tall (xs ++ x ∷ []) ≡ max (tall xs) x
-tall_last xs x = let a = tall_append xs (x ∷ []) in let b = tall_cons x [] in omega (arith, a, b)
 
 array_are : (at : ℕ) (elements : List Tree) (element : Option Tree) → nodes (tree.Array at elements element) ≡ 1 + sum (map nodes elements) + if_some nodes element
 array_are at elements None =
@@ -184,19 +92,6 @@ hash_nests at entries (Some x) =
     let a : nesting (tree.Hash at entries (Some x)) ≡ 1 + tall (map nesting entries ++ nesting x ∷ []) = search the_lemmas in
     let b = tall_last (map nesting entries) (nesting x) in
     omega (arith, a, b)
-
-pub maybe_high : (height : ℕ) (o : Option Tree) → 0 < height → max height (if_some part_height o) ≡ max height (if_some nesting o + 1)
-maybe_high height None some = omega arith
-maybe_high height (Some x) some = refl
-
--- the same of a node with parts, and with one that may be there
-pub node_with_told : (n : ℕ) (x : Tree) (parts : List Tree) (last : Option Tree) → nodes x ≡ 1 + sum (map nodes parts) + if_some nodes last
-    → nesting x ≡ 1 + max (tall (map nesting parts)) (if_some nesting last)
-    → known (n + nodes x) (nesting x) ≡ known (n + 1 + size_of_all nodes parts + if_some nodes last) (max (max 1 (top_of_all part_height parts)) (if_some part_height last))
-node_with_told n x parts last many high =
-    let a = parts_high 1 parts (omega arith) in
-    let c = maybe_high 1 last (omega arith) in
-    known_is _ _ _ _ (omega (arith, many)) (omega (arith, high, a, c))
 
 pair_are : (key value : Tree) → nodes (tree.Pair key value) ≡ nodes key + nodes value
 pair_are key value = grind (arith, the_lemmas)
@@ -248,7 +143,7 @@ module _ (effort : Effort) (rec : Wanted → Reader Tree) (S T : Wanted → Form
       (λ w x c. let one = number_one w x c in known_is _ _ _ _ (let a = one.0 in omega (arith, a)) (sym one.1))
       (counts_map (ex.number T within free) (literals.number_back effort rec S T given within free)
       (counts_grown (λ (found : ℕ × Tree). nothing found.1) never (λ (found : ℕ × Tree). found.0) (λ (found : ℕ × Tree). pure found.1) (λ x. known (n + 1) 1)
-      (λ t x e. sym e.0) (words.exact_number effort never) (λ found. b.follows_never (nothing found.1) never) n
+      (λ t x e. sym e.0) (words.exact_number effort never) (λ found. follows_never (nothing found.1) never) n
       (λ found. counts_pure found.1 never (known (n + 1) 1) (λ x. known (n + 1) 1) refl)))
 
   pub counts_text : limits.Trees (literals.whole_text effort rec S T given within free) never (primaries.text turns rec within free)
@@ -271,15 +166,14 @@ module _ (effort : Effort) (rec : Wanted → Reader Tree) (S T : Wanted → Form
       (λ text. counts_bind_quiet (λ value. nothing (part_of text value)) (goes_or free) (λ value. pure (part_of text value)) to (rises_inserted n h)
       (λ value. counts_pure (part_of text value) (goes_or free) (known (n + nodes value) (max h (part_height value))) to refl)
       (λ value. (still_pure (part_of text value)).lets)
-      (λ value. b.follows_nothing (goes_or free) (goes_or free) (part_of text value) (λ look spaced e. e)))
-      (λ text. b.follows_never (f.◌>>=◌ (T (Or within free)) (λ value. nothing (part_of text value))) (goes_or free))
+      (λ value. follows_nothing (goes_or free) (goes_or free) (part_of text value) (λ look spaced e. e)))
+      (λ text. follows_never (f.◌>>=◌ (T (Or within free)) (λ value. nothing (part_of text value))) (goes_or free))
 
   abbrev insertions_of : Word → Tree → List (Tree × List ℕ) → Word → Tree
-  insertions_of first value more last =
-      tree.Insertions first.at (first.text ∷ map (λ (x : Tree × List ℕ). x.1) more ++ last.text ∷ []) (value ∷ map (λ (x : Tree × List ℕ). x.0) more)
+  insertions_of = literals.insertions_of effort rec S T given within free
 
   abbrev last_part : Word → Tree → List (Tree × List ℕ) → Form Tree
-  last_part first value more = f.◌>>=◌ (f.holding (λ text. k.TextLast text)) (λ last. nothing (insertions_of first value more last))
+  last_part = literals.last_part effort rec S T given within free
 
   abbrev parts_behind : Word → Tree → Form Tree
   parts_behind first value = f.◌>>=◌ (f.many (ex.part_behind T within free)) (last_part first value)
@@ -290,29 +184,29 @@ module _ (effort : Effort) (rec : Wanted → Reader Tree) (S T : Wanted → Form
   abbrev goes_parts : Test
   goes_parts = either (seen l.TextMiddle) (goes_or free)
 
-  led_middle : b.LedBy l.TextMiddle (ex.part_behind T within free)
+  led_middle : LedBy l.TextMiddle (ex.part_behind T within free)
   led_middle = literals.led_middle effort rec S T given within free
 
-  led_last : (first : Word) (value : Tree) (more : List (Tree × List ℕ)) → b.LedBy l.TextLast (last_part first value more)
+  led_last : (first : Word) (value : Tree) (more : List (Tree × List ℕ)) → LedBy l.TextLast (last_part first value more)
   led_last = literals.led_last effort rec S T given within free
 
   pub counts_insertions : limits.Trees (ex.insertions T within free) never (primaries.insertions turns rec within free)
   unfolding same_look
   counts_insertions n =
-      counts_grown values_behind never (λ (first : Word). first.at) _ (told n) (λ t x e. sym e.1) (words.exact_first_text effort never) (λ first. b.follows_never (values_behind first) never) n
+      counts_grown values_behind never (λ (first : Word). first.at) _ (told n) (λ t x e. sym e.1) (words.exact_first_text effort never) (λ first. follows_never (values_behind first) never) n
       (λ first. counts_bind (parts_behind first) never _ (told n) (literals.exact_inserted effort rec S T given within free) (rises_inserted (n + 1) 1)
       (λ value. counts_bind_quiet (last_part first value) never (λ more. holder w.last_text >>= λ last. pure (insertions_of first value more last)) (told n)
       (rises_many effort (seen l.TextMiddle) (goes_or free) (seen_apart l.TextMiddle (goes_or free) (λ spaced. refl)) (ex.part_behind S within free) (ex.part_behind T within free)
-      (primaries.part_behind turns rec within free) (weaken _ (literals.exact_part_behind effort rec S T given within free)) (λ w x rest c. b.led_seen l.TextMiddle w rest (led_middle w x c))
+      (primaries.part_behind turns rec within free) (weaken _ (literals.exact_part_behind effort rec S T given within free)) (λ w x rest c. led_seen l.TextMiddle w rest (led_middle w x c))
       (λ x. nodes x.0) (λ x. part_height x.0) (λ m h. counts_weaken _ (passing_same (seen l.TextMiddle)) (rises_part_behind m h)) turns (n + 1 + nodes value) (max 1 (part_height value)))
       (λ more. counts_still_then (f.holding (λ text. k.TextLast text)) (λ last. nothing (insertions_of first value more last)) never (λ last. pure (insertions_of first value more last)) _ (told n)
       (still_take _) (λ last. counts_pure (insertions_of first value more last) never _ (told n) (insertions_told n first.at _ value more))
       (λ last. (still_pure (insertions_of first value more last)).lets))
       (λ more. (still_bind (still_take _) (λ last. still_pure (insertions_of first value more last))).lets)
-      (λ more. b.follows_led l.TextLast goes_parts never (last_part first value more) (λ spaced. refl) (led_last first value more)))
-      (λ value. b.follows_bind (goes_or free) never (f.many (ex.part_behind T within free)) (last_part first value)
-      (b.follows_many (goes_or free) (ex.part_behind T within free) (b.follows_led l.TextMiddle (goes_or free) (goes_or free) (ex.part_behind T within free) (λ spaced. refl) led_middle))
-      (λ more. b.follows_led l.TextLast (goes_or free) never (last_part first value more) (λ spaced. refl) (led_last first value more))))
+      (λ more. follows_led l.TextLast goes_parts never (last_part first value more) (λ spaced. refl) (led_last first value more)))
+      (λ value. follows_bind (goes_or free) never (f.many (ex.part_behind T within free)) (last_part first value)
+      (follows_many (goes_or free) (ex.part_behind T within free) (follows_led l.TextMiddle (goes_or free) (goes_or free) (ex.part_behind T within free) (λ spaced. refl) led_middle))
+      (λ more. follows_led l.TextLast (goes_or free) never (last_part first value more) (λ spaced. refl) (led_last first value more))))
 
   -- ---- arrays
 
@@ -333,10 +227,10 @@ module _ (effort : Effort) (rec : Wanted → Reader Tree) (S T : Wanted → Form
   rises_of : (C : Form Tree) (p : Reader Tree) → limits.Parts C goes_type p
       → Rises (if_some nodes) (if_some part_height) Any (f.maybe (f.◌>>◌ (f.word l.Of) C)) goes_of (optional (seen l.Of) (expect l.Of >> p))
   rises_of C p rp =
-      rises_optional (f.◌>>◌ (f.word l.Of) C) goes_type (expect l.Of >> p) (seen l.Of) nodes part_height (λ w x rest c. b.led_seen l.Of w rest (b.led_at l.Of w c.0 c.1 c.2 c.3 c.4))
+      rises_optional (f.◌>>◌ (f.word l.Of) C) goes_type (expect l.Of >> p) (seen l.Of) nodes part_height (λ w x rest c. led_seen l.Of w rest (led_at l.Of w c.0 c.1 c.2 c.3 c.4))
       (λ n h. counts_weaken _ (passing_same (seen l.Of)) (rises_behind effort k.Of C goes_type p nodes part_height rp n h))
 
-  of_less : b.Less goes_of goes
+  of_less : Less goes_of goes
   of_less = literals.of_less effort rec S T given within free
 
   -- the node with its parts, and what stands behind `of`
@@ -347,7 +241,7 @@ module _ (effort : Effort) (rec : Wanted → Reader Tree) (S T : Wanted → Form
       counts_bind_quiet (λ o. nothing (make o)) goes (λ o. pure (make o)) (told n) (rises_of C p rp (n + 1 + size_of_all nodes parts) (max 1 (top_of_all part_height parts)))
       (λ o. counts_pure (make o) goes _ (told n) (node_with_told n (make o) parts o (many o) (high o)))
       (λ o. (still_pure (make o)).lets)
-      (λ o. b.follows_nothing goes_of goes (make o) of_less)
+      (λ o. follows_nothing goes_of goes (make o) of_less)
 
   abbrev elements_behind : ℕ → List Tree → Form Tree
   elements_behind at elements = f.◌>>=◌ (f.maybe (f.◌>>◌ (f.word l.Of) (T (Written true)))) (λ element. nothing (tree.Array at elements element))
@@ -381,30 +275,27 @@ module _ (effort : Effort) (rec : Wanted → Reader Tree) (S T : Wanted → Form
 
   counts_array_end : (n at : ℕ) (elements : List Tree) → Counts Any (array_end at elements) goes (parted n elements) (told n) (expect l.CloseBracket >> read_elements at elements)
   counts_array_end n at elements =
-      counts_behind effort k.CloseBracket (λ _. elements_behind at elements) goes (λ _. read_elements at elements) (parted n elements) (told n)
+      counts_word effort k.CloseBracket (λ _. elements_behind at elements) goes (λ _. read_elements at elements)
       (λ _. counts_of n elements (T (Written true)) (part (rec (Written true))) (λ element. tree.Array at elements element) (rises_part nodes nesting (counts.written true)) (array_are at elements) (array_nests at elements))
 
   counts_array_tail : (n at : ℕ) (elements : List Tree) → Counts Any (array_tail at elements) goes (parted n elements) (told n) (separators turns >> (expect l.CloseBracket >> read_elements at elements))
   unfolding same_look
   counts_array_tail n at elements =
-      counts_separated effort (array_end at elements) goes _ (parted n elements) (told n) (b.follows_led l.CloseBracket (seen l.Newline) goes (array_end at elements) (λ spaced. refl) (b.led l.CloseBracket _))
+      counts_separated effort (array_end at elements) goes _ (parted n elements) (told n) (follows_led l.CloseBracket (seen l.Newline) goes (array_end at elements) (λ spaced. refl) (led l.CloseBracket _))
       (counts_array_end n at elements)
 
-  values_ahead : (look : TokenLook) → begins_or within look ≡ false → (open_ : Bool) → b.Ahead (seen look) (T (Or within open_))
-  values_ahead = literals.values_ahead effort rec S T given within free
-
-  array_follows : (at : ℕ) → b.Follows (seen l.Newline) (array_once at) goes
+  array_follows : (at : ℕ) → Follows (seen l.Newline) (array_once at) goes
   unfolding same_look
   array_follows at =
-      b.follows_or (seen l.Newline) goes (array_end at []) (f.◌>>=◌ (ex.inside T within free) (array_tail at))
-      (b.follows_led l.CloseBracket (seen l.Newline) goes (array_end at []) (λ spaced. refl) (b.led l.CloseBracket _))
-      (b.follows_ahead (seen l.Newline) goes (f.◌>>=◌ (ex.inside T within free) (array_tail at))
-      (b.ahead_bind (seen l.Newline) (ex.inside T within free) (array_tail at) (b.ahead_bind (seen l.Newline) (T (Or within true)) _ (values_ahead l.Newline refl true))))
+      follows_or (seen l.Newline) goes (array_end at []) (f.◌>>=◌ (ex.inside T within free) (array_tail at))
+      (follows_led l.CloseBracket (seen l.Newline) goes (array_end at []) (λ spaced. refl) (led l.CloseBracket _))
+      (follows_ahead (seen l.Newline) goes (f.◌>>=◌ (ex.inside T within free) (array_tail at))
+      (first_bind false (seen l.Newline) (ex.inside T within free) (array_tail at) (first_bind false (seen l.Newline) (T (Or within true)) _ (or_halts effort rec S T given within true l.Newline refl))))
 
-  tail_follows : (at : ℕ) (elements : List Tree) → b.Follows goes_inside (array_tail at elements) goes
+  tail_follows : (at : ℕ) (elements : List Tree) → Follows goes_inside (array_tail at elements) goes
   unfolding same_look
   tail_follows at elements w x rest c stop =
-      seps_halts goes_inside (λ spaced. refl) (λ _. array_end at elements) (λ _ v y more d. b.led_stops l.CloseBracket goes_inside (λ spaced. refl) v more (b.led l.CloseBracket (λ _. elements_behind at elements) v y d)) w x rest c
+      seps_halts goes_inside (λ spaced. refl) (λ _. array_end at elements) (λ _ v y more d. led_first false l.CloseBracket goes_inside (λ spaced. refl) v more (led l.CloseBracket (λ _. elements_behind at elements) v y d)) w x rest c
 
   counts_array_once : (n at : ℕ) → Counts Any (array_once at) goes (known (n + 1) 1) (told n)
       (unless_closed l.CloseBracket (bodies.inside turns rec within) >>= λ elements. separators turns >> (expect l.CloseBracket >> read_elements at elements))
@@ -414,13 +305,13 @@ module _ (effort : Effort) (rec : Wanted → Reader Tree) (S T : Wanted → Form
       (counts_array_tail n at)
       (counts_map (array_end at []) (λ w x c. ([], w, tt, refl, no_seps, c))
       (subst (λ (t : Tally). Counts Any (array_tail at []) goes t (told n) (separators turns >> (expect l.CloseBracket >> read_elements at []))) (parted_none n) (counts_array_tail n at [])))
-      (b.led l.CloseBracket _)
-      (b.ahead_bind (seen l.CloseBracket) (T (Or within true)) _ (values_ahead l.CloseBracket refl true))
+      (led l.CloseBracket _)
+      (first_bind false (seen l.CloseBracket) (T (Or within true)) _ (or_halts effort rec S T given within true l.CloseBracket refl))
       (tail_follows at)
 
   pub counts_array : limits.Trees (ex.array T within free) goes (primaries.array turns rec within free)
   counts_array n =
-      counts_grown array_behind goes (λ at. at) _ (told n) (λ t x e. sym e.1) (exact_word effort k.OpenBracket never) (λ at. b.follows_never (array_behind at) goes) n
+      counts_grown array_behind goes (λ at. at) _ (told n) (λ t x e. sym e.1) (exact_word effort k.OpenBracket never) (λ at. follows_never (array_behind at) goes) n
       (λ at. counts_map (array_behind at) (array_back at) (counts_separated effort (array_once at) goes _ (known (n + 1) 1) (told n) (array_follows at) (counts_array_once n at)))
 
   -- ---- hashes
@@ -437,7 +328,7 @@ module _ (effort : Effort) (rec : Wanted → Reader Tree) (S T : Wanted → Form
         counts_bind_quiet (λ value. nothing (tree.Pair key value)) g (λ value. pure (tree.Pair key value)) _ (rp (n + nodes key) (max h (part_height key)))
         (λ value. counts_pure (tree.Pair key value) g _ _ (pair_told n h key value))
         (λ value. (still_pure (tree.Pair key value)).lets)
-        (λ value. b.follows_nothing g g (tree.Pair key value) (λ look spaced e. e))
+        (λ value. follows_nothing g g (tree.Pair key value) (λ look spaced e. e))
 
     rises_pair : Not l.Arrow g → limits.Parts (ex.pair T within free C) g (primaries.pair turns rec within free p)
     rises_pair stops n h =
@@ -445,10 +336,10 @@ module _ (effort : Effort) (rec : Wanted → Reader Tree) (S T : Wanted → Form
         counts_bind arrow_behind g _ to ep (rp n h)
         (λ key.
         let from = known (n + nodes key) (max h (part_height key)) in
-        counts_map (arrow_behind key) (literals.assoc_out (f.word l.Arrow) (λ _. f.seps) (λ _. value_behind key))
-        (counts_behind effort k.Arrow (λ _. f.◌>>◌ f.seps (value_behind key)) g _ from to
-        (λ _. counts_separated effort (value_behind key) g _ from to (b.follows_ahead (seen l.Newline) g (value_behind key) (b.ahead_bind (seen l.Newline) C _ ahead)) (counts_value n h key))))
-        (λ key. b.follows_led l.Arrow g g (arrow_behind key) stops (b.led_bind l.Arrow (ex.arrow T within free) (λ _. value_behind key) (b.led l.Arrow (λ _. f.seps))))
+        counts_map (arrow_behind key) (bind_out (f.word l.Arrow) (λ _. f.seps) (λ _. value_behind key))
+        (counts_word effort k.Arrow (λ _. f.◌>>◌ f.seps (value_behind key)) g _
+        (λ _. counts_separated effort (value_behind key) g _ from to (follows_ahead (seen l.Newline) g (value_behind key) (first_bind false (seen l.Newline) C _ ahead)) (counts_value n h key))))
+        (λ key. follows_led l.Arrow g g (arrow_behind key) stops (led_bind l.Arrow (ex.arrow T within free) (λ _. value_behind key) (led l.Arrow (λ _. f.seps))))
 
   abbrev goes_pairs : Test
   goes_pairs = either (seen l.Comma) (goes_or free)
@@ -465,16 +356,16 @@ module _ (effort : Effort) (rec : Wanted → Reader Tree) (S T : Wanted → Form
       let some = literals.pair_some effort rec S T given within free (S (Or within free)) (given.some (Or within free)) in
       rises_listed_parts effort (ex.pair S within free (S (Or within free))) (ex.pair T within free (T (Or within free))) (goes_or free) (primaries.pair turns rec within free (part (rec (Or within free))))
       (literals.exact_pair effort rec S T given within free (S (Or within free)) (T (Or within free)) (goes_or free) (part (rec (Or within free)))
-      (literals.exact_inserted effort rec S T given within free) (values_ahead l.Newline refl free) (given.some (Or within free)) (λ spaced. refl))
-      (b.ahead_bind (seen l.Newline) (T (Or within free)) _ (values_ahead l.Newline refl free)) some.0 some.1 some.2
+      (literals.exact_inserted effort rec S T given within free) (or_halts effort rec S T given within free l.Newline refl) (given.some (Or within free)) (λ spaced. refl))
+      (first_bind false (seen l.Newline) (T (Or within free)) _ (or_halts effort rec S T given within free l.Newline refl)) some.0 some.1 some.2
       (seen_apart l.Comma (goes_or free) (λ spaced. refl)) nodes part_height
-      (rises_pair (S (Or within free)) (T (Or within free)) (goes_or free) (part (rec (Or within free))) (literals.exact_inserted effort rec S T given within free) (values_ahead l.Newline refl free)
+      (rises_pair (S (Or within free)) (T (Or within free)) (goes_or free) (part (rec (Or within free))) (literals.exact_inserted effort rec S T given within free) (or_halts effort rec S T given within free l.Newline refl)
       rises_inserted (λ spaced. refl))
 
   rises_type_pair : limits.Parts (ex.pair T within free (T (Written true))) goes_type (primaries.pair turns rec within free (part (rec (Written true))))
   rises_type_pair =
       rises_pair (S (Written true)) (T (Written true)) goes_type (part (rec (Written true))) (exact_part (rec (Written true)) (given.exact (Written true)))
-      (b.ahead_first begins_type (seen l.Newline) (T (Written true)) (b.apart_seen begins_type l.Newline refl) (given.type_begins true))
+      (first_tested false begins_type (seen l.Newline) (T (Written true)) (look_apart begins_type l.Newline refl) (given.type_begins true))
       (rises_part nodes nesting (counts.written true)) (λ spaced. refl)
 
   abbrev hash_end : ℕ → List Tree → Form Tree
@@ -485,23 +376,23 @@ module _ (effort : Effort) (rec : Wanted → Reader Tree) (S T : Wanted → Form
 
   counts_hash_end : (n at : ℕ) (entries : List Tree) → Counts Any (hash_end at entries) goes (parted n entries) (told n) (read_hash_end at entries)
   counts_hash_end n at entries =
-      counts_behind effort k.CloseBrace _ goes _ (parted n entries) (told n)
+      counts_word effort k.CloseBrace _ goes _
       (λ _. counts_of n entries (ex.pair T within free (T (Written true))) _ (λ entry. tree.Hash at entries entry) rises_type_pair (hash_are at entries) (hash_nests at entries))
 
   counts_entries : (n at : ℕ) → Counts Any (f.◌>>=◌ (f.or_none (pairs_of T)) (hash_end at)) goes (known (n + 1) 1) (told n) (unless_closed l.CloseBrace read_pairs >>= read_hash_end at)
   unfolding same_look
   counts_entries n at =
-      counts_map (f.◌>>=◌ (f.or_none (pairs_of T)) (hash_end at)) (literals.once_back (pairs_of T) (hash_end at))
+      counts_map (f.◌>>=◌ (f.or_none (pairs_of T)) (hash_end at)) (empty_or_in (pairs_of T) (hash_end at))
       (counts_once l.CloseBrace (pairs_of S) (pairs_of T) goes_pairs read_pairs (hash_end at []) (hash_end at) goes (read_hash_end at) (known (n + 1) 1) (parted n) (told n)
       (literals.exact_pairs effort rec S T given within free) (rises_pairs (n + 1) 1) (counts_hash_end n at)
       (subst (λ (t : Tally). Counts Any (hash_end at []) goes t (told n) (read_hash_end at [])) (parted_none n) (counts_hash_end n at []))
-      (b.led l.CloseBrace _)
-      (b.ahead_bind (seen l.CloseBrace) (ex.pair T within free (T (Or within free))) _ (b.ahead_bind (seen l.CloseBrace) (T (Or within free)) _ (values_ahead l.CloseBrace refl free)))
-      (λ entries. b.follows_led l.CloseBrace goes_pairs goes (hash_end at entries) (λ spaced. refl) (b.led l.CloseBrace _)))
+      (led l.CloseBrace _)
+      (first_bind false (seen l.CloseBrace) (ex.pair T within free (T (Or within free))) _ (first_bind false (seen l.CloseBrace) (T (Or within free)) _ (or_halts effort rec S T given within free l.CloseBrace refl)))
+      (λ entries. follows_led l.CloseBrace goes_pairs goes (hash_end at entries) (λ spaced. refl) (led l.CloseBrace _)))
 
   pub counts_hash : limits.Trees (ex.hash T within free) goes (primaries.hash turns rec within free)
   counts_hash n =
-      counts_grown hash_behind goes (λ at. at) _ (told n) (λ t x e. sym e.1) (exact_word effort k.OpenBrace never) (λ at. b.follows_never (hash_behind at) goes) n
+      counts_grown hash_behind goes (λ at. at) _ (told n) (λ t x e. sym e.1) (exact_word effort k.OpenBrace never) (λ at. follows_never (hash_behind at) goes) n
       (λ at. counts_separated effort (f.◌>>=◌ (f.or_none (pairs_of T)) (hash_end at)) goes _ (known (n + 1) 1) (told n) (literals.entries_follow effort rec S T given within free at) (counts_entries n at)) where
         hash_behind : ℕ → Form Tree
         hash_behind at = f.◌>>◌ f.seps (f.◌>>=◌ (f.or_none (pairs_of T)) (hash_end at))

@@ -24,22 +24,24 @@ use Rattle.cr_exact.specs.Reader.{Reader, ◌>>=◌, ◌>>◌, pure, Test, passe
 use Rattle.cr_exact.specs.Lists.{separators}
 use Rattle.cr_exact.specs.Exact.{Effort, Any}
 use Rattle.cr_exact.specs.Limits.{Tally, known, Counts, Whole}
+use Rattle.cr_descent.specs.Goes as g
+use Rattle.cr_descent.specs.Operations as operations
+use Rattle.cr_descent.specs.Operations.{Operator, operator_of}
+use Rattle.cr_exact.proofs.TokenTests.{Apart, stops_left, stops_right, never_stops, look_apart}
 use Rattle.cr_exact.proofs.Sequence.{weaken}
 use Rattle.cr_exact.proofs.Tokens.{Passing, Failing, exact_take, exact_word, a_token}
-use Rattle.cr_exact.proofs.Loops.{Apart, stops_left, stops_right}
+use Rattle.cr_exact.proofs.Forms.{begins_some, made_out}
+use Rattle.cr_exact.proofs.Heads.{led_seen, led_at, other_first, tested}
+use Rattle.cr_exact.proofs.Lists.{exact_separators}
 use Rattle.cr_exact.proofs.Limits.{counts_bind, counts_bind_quiet, counts_pure, counts_silent, counts_weaken, counts_map, counts_goes, still_pure}
 use Rattle.cr_exact.proofs.LimitSteps.{counts_grown, counts_wrapped}
 use Rattle.cr_exact.proofs.LimitChoices.{passing_same, failing_same, counts_choose, counts_only, counts_last}
 use Rattle.cr_exact.proofs.LimitLoops.{counts_repeated}
 use Rattle.cr_exact.proofs.LimitParts.{known_is, rises_part}
-use Rattle.cr_descent.specs.Goes as g
-use Rattle.cr_descent.specs.Operations as operations
-use Rattle.cr_descent.specs.Operations.{Operator, operator_of}
-use Rattle.cr_descent.proofs.Lists.{exact_separators}
+use Rattle.cr_exact.proofs.LimitLists.{still_separators}
 use Rattle.cr_descent.proofs.Claims as claims
 use Rattle.cr_descent.proofs.LimitClaims as limits
 use Rattle.cr_descent.proofs.LimitTable as table
-use Rattle.cr_descent.proofs.LimitLists.{still_separators}
 use Rattle.cr_descent.proofs.LimitLinks.{counts_postfix_tree}
 use Rattle.cr_descent.proofs.OperationForms as forms
 use Rattle.cr_descent.proofs.OperationForms.{Ended}
@@ -83,7 +85,7 @@ module _ (effort : Effort) (rec : Wanted → Reader Tree) (S T : Wanted → Form
     counts_prefix kind operator n =
         counts_grown (λ at. f.◌>>=◌ (T (Unary within free)) (λ x. nothing (tree.Unary at operator x))) (g.goes_operand free) (λ at. at)
         (λ at. part (rec (Unary within free)) >>= λ x. pure (tree.Unary at operator x)) (λ x. known (n + nodes x) (nesting x))
-        (λ t at e. sym e.1) (exact_word effort kind never) (λ at b y rest d stop. ops.stops_never (b ++ rest)) n
+        (λ t at e. sym e.1) (exact_word effort kind never) (λ at b y rest d stop. never_stops (b ++ rest)) n
         (λ at. counts_bind_quiet (λ x. nothing (tree.Unary at operator x)) (g.goes_operand free) (λ x. pure (tree.Unary at operator x)) (λ x. known (n + nodes x) (nesting x))
         (rises_part nodes nesting (counts.unary within free) (n + 1) 1)
         (λ x. counts_pure (tree.Unary at operator x) (g.goes_operand free) (known (n + 1 + nodes x) (max 1 (nesting x + 1))) (λ x. known (n + nodes x) (nesting x))
@@ -104,8 +106,8 @@ module _ (effort : Effort) (rec : Wanted → Reader Tree) (S T : Wanted → Form
         (operations.unary_of effort.turns rec within free l.Minus negate) postfix
         (counts_weaken (Passing (seen l.Minus)) (passing_same (seen l.Minus)) (counts_prefix k.Minus prefix.Negate n))
         (counts_weaken (Failing (seen l.Minus)) (failing_same (seen l.Minus)) (counts_postfix_tree effort rec S T given counts within free n))
-        (λ w x rest c. ops.word_heads l.Minus w c.0 c.1 rest c.2 c.3 c.4)
-        (λ w x rest d stop. ops.begins_otherwise l.Minus w rest (ops.postfix_some effort rec S T given within free w x d) (ops.not_minus effort rec S T given within free w x d))
+        (λ w x rest c. led_seen l.Minus w rest (led_at l.Minus w c.0 c.1 c.2 c.3 c.4))
+        (λ w x rest d stop. other_first l.Minus w rest (ops.postfix_some effort rec S T given within free w x d) (ops.not_minus effort rec S T given within free w x d))
 
   pub counts_unary : (within : Within) (free : Bool) → table.UnaryTree effort rec T within free
   counts_unary within free n =
@@ -115,7 +117,7 @@ module _ (effort : Effort) (rec : Wanted → Reader Tree) (S T : Wanted → Form
       (choose (seen l.Minus) (operations.unary_of effort.turns rec within free l.Minus (negate within free)) (postfix within free))
       (counts_weaken (Passing (seen l.Bang)) (passing_same (seen l.Bang)) (counts_prefix within free k.Bang prefix.Not n))
       (counts_weaken (Failing (seen l.Bang)) (failing_same (seen l.Bang)) (counts_signed within free n))
-      (λ w x rest c. ops.word_heads l.Bang w c.0 c.1 rest c.2 c.3 c.4)
+      (λ w x rest c. led_seen l.Bang w rest (led_at l.Bang w c.0 c.1 c.2 c.3 c.4))
       (λ w x rest d stop. ops.other_than_bang effort rec S T given within free w x rest d)
 
   -- ---- an operator and its operand
@@ -145,19 +147,19 @@ module _ (effort : Effort) (rec : Wanted → Reader Tree) (S T : Wanted → Form
           (let a = binary_is found.at found.operator x.0 y.0 in let b = binary_nests found.at found.operator x.0 y.0 in known_is _ _ _ _ (omega (arith, a)) (omega (arith, b))))
           (λ y. (still_pure (node found y)).lets)
           (λ y b z rest d stop. rw d.0 stop))
-          (λ _ b z rest d stop. let m = forms.nothing_out (with_last (L T)) (node found) b z d in ops.begins_no_line within b rest (operand.begins b m.0.0 m.1.0))
+          (λ _ b z rest d stop. let m = made_out (with_last (L T)) (node found) b z d in tested false (begins_or within) (seen l.Newline) (look_apart (begins_or within) l.Newline refl) b rest (operand.begins b m.0.0 m.1.0))
 
       counts_operation : (kind : TokenKind) (operator : Binary) → tabled (look_of kind) ≡ Some operator
           → Counts Any (ex.operation T within free tabled (L T) x) h (told n x) (told n) (operations.operation effort.turns rec within free tabled p x)
       counts_operation kind operator is =
           counts_map (ex.operation T within free tabled (L T) x)
-          (forms.operation_out T within free tabled (L T) (λ w y c. forms.begins_some (begins_or within) w (operand.begins w y c)) x)
+          (forms.operation_out T within free tabled (L T) (λ w y c. begins_some (begins_or within) w (operand.begins w y c)) x)
           (counts_wrapped (λ found. forms.guarded (o.is_name x.1 && found.sign) (behind found)) h (λ (found : Operator). found.at)
           (λ found. operations.no_sign (o.is_name x.1 && found.sign) >> (separators effort.turns >> (part p >>= λ y. pure (node found y)))) (told n)
           (λ t found e. sym (forms.operator_is t (tabled (look_of t.kind)) found e).1)
           (exact_take effort (λ t found. operator_of t (tabled (look_of t.kind)) ≡ Some found) never (λ t. operator_of t (tabled (look_of t.kind))) (λ t found e. e) (λ t found e. e)
           (a_token kind) (record { at = 0; operator = operator; sign = o.is_minus (look_of kind) && false }) (ap (operator_of (a_token kind)) is))
-          (λ found b y rest d stop. ops.stops_never (b ++ rest)) (n + nodes x.0) (nesting x.0)
+          (λ found b y rest d stop. never_stops (b ++ rest)) (n + nodes x.0) (nesting x.0)
           (λ found. counts_guarded (o.is_name x.1 && found.sign) (behind found) h (separators effort.turns >> (part p >>= λ y. pure (node found y))) (counts_behind found)))
 
     -- operations of this table behind an operand, one time and again
@@ -260,4 +262,4 @@ module _ (effort : Effort) (rec : Wanted → Reader Tree) (S T : Wanted → Form
       (λ y. counts_pure y.0 (g.goes_or free) (told n y) (λ x. known (n + nodes x) (nesting x)) refl)
       (λ y. (still_pure y.0).lets)
       (λ y b z rest d stop. rw d.0 stop))
-      (λ x b z rest d stop. let m = forms.nothing_out (forms.or_rest T within free x) (λ y. y.0) b z d in ops.or_rest_stops effort rec S T given within free x b m.0 rest m.1 stop))
+      (λ x b z rest d stop. let m = made_out (forms.or_rest T within free x) (λ y. y.0) b z d in ops.or_rest_stops effort rec S T given within free x b m.0 rest m.1 stop))

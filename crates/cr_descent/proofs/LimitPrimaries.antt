@@ -1,7 +1,6 @@
 -- What is counted at the head of a postfix.
-use Rattle.std.proofs.Common.{◌≡◌, ℕ, ◌+◌, max, Bool, List, [], ◌∷◌, ◌++◌, map, Option, Some, None, inl, inr, refl, sym, ap, ◌∙◌, arith}
+use Rattle.std.proofs.Common.{◌≡◌, ℕ, ◌+◌, max, Bool, List, [], map, Option, Some, None, inl, inr, refl, sym, ap, ◌∙◌, arith, false}
 use Rattle.std.specs.Prelude.{sum}
-use Rattle.std.proofs.lemmas.List.{append-nil}
 use Rattle.cr_syntax.specs.declared.look.TokenLook.{TokenLook}
 use Rattle.cr_syntax.specs.declared.look.TokenLook.TheVariants as l
 use Rattle.cr_syntax.specs.declared.token.Token.{Token}
@@ -21,53 +20,49 @@ use Rattle.cr_exact.specs.Reader.{Reader, Test, seen, tight_seen, never, allow, 
 use Rattle.cr_exact.specs.Lists.{parenthesized}
 use Rattle.cr_exact.specs.Exact.{Effort}
 use Rattle.cr_exact.specs.Limits.{Tally, known, unknown, tall, size_of_all, top_of_all, if_some}
-use Rattle.cr_exact.proofs.Tokens.{Looks, Led, exact_word}
-use Rattle.cr_exact.proofs.Limits.{counts_bind, counts_bind_quiet, counts_pure, counts_weaken, counts_map, still_pure}
-use Rattle.cr_exact.proofs.LimitSteps.{counts_grown}
-use Rattle.cr_exact.proofs.LimitChoices.{Way, counts_by, looks_same}
-use Rattle.cr_exact.proofs.LimitParts.{known_is}
 use Rattle.cr_descent.specs.Goes.{goes_primary, goes_stmt}
 use Rattle.cr_descent.specs.Operand.{Operand, Variable, Whole, whole, named, yielded, above}
 use Rattle.cr_descent.specs.Bodies as bodies
 use Rattle.cr_descent.specs.Primaries as primaries
+use Rattle.cr_exact.proofs.TokenTests.{look_apart, less_never, Less}
+use Rattle.cr_exact.proofs.Tokens.{Looks, Led, exact_word}
+use Rattle.cr_exact.proofs.Heads.{first_tested}
+use Rattle.cr_exact.proofs.Follows.{follows_bind, follows_never, follows_maybe, follows_ahead, follows_nothing}
+use Rattle.cr_exact.proofs.Limits.{counts_bind, counts_bind_quiet, counts_pure, counts_weaken, counts_map, still_pure}
+use Rattle.cr_exact.proofs.LimitSteps.{counts_grown}
+use Rattle.cr_exact.proofs.LimitChoices.{Way, counts_by, looks_same, way_where}
+use Rattle.cr_exact.proofs.LimitParts.{known_is, sum_append, tall_append}
+use Rattle.cr_exact.proofs.LimitLists.{counts_parenthesized, counts_one}
 use Rattle.cr_descent.proofs.Words.{exact_ident, exact_instance_variable}
-use Rattle.cr_descent.proofs.Begins as b
 use Rattle.cr_descent.proofs.Operands as operands
 use Rattle.cr_descent.proofs.Claims as claims
-use Rattle.cr_descent.proofs.Bodies.{exact_arguments}
+use Rattle.cr_descent.proofs.Bodies.{exact_arguments, parenthesis_less, block_less, no_parenthesis}
 use Rattle.cr_descent.proofs.Primaries as heads
 use Rattle.cr_descent.proofs.LimitClaims as limits
 use Rattle.cr_descent.proofs.LimitTable as table
 use Rattle.cr_descent.proofs.LimitTable.{part_height}
-use Rattle.cr_descent.proofs.LimitLists.{counts_parenthesized}
 use Rattle.cr_descent.proofs.LimitBodies.{counts_plain, counts_arguments, counts_maybe_block}
 use Rattle.cr_descent.proofs.LimitCompounds.{counts_conditional, counts_looping, counts_cases, counts_select}
-use Rattle.cr_descent.proofs.LimitLiterals.{counts_one, node_told, node_with_told, counts_number, counts_text, counts_insertions, counts_array, counts_hash}
-use Rattle.cr_descent.proofs.LimitLiterals as literals
-use Rattle.cr_descent.proofs.LimitClasses.{way_where, listed_are, listed_nest}
+use Rattle.cr_descent.proofs.LimitLiterals.{counts_number, counts_text, counts_insertions, counts_array, counts_hash}
+use Rattle.cr_descent.proofs.LimitClasses.{listed_are, listed_nest}
 use Rattle.cr_descent.proofs.LimitClasses as classes
+use Rattle.cr_descent.proofs.LimitNodes.{node_told, node_with_told, held, held_sum, held_tall, call_nodes, call_nesting}
 
 -- ---- the nodes of a name, and of what is passed on
 
 call_are : (at : ℕ) (text : List ℕ) (arguments : List Tree) (block : Option Tree) → nodes (tree.Call at None text arguments block) ≡ 1 + sum (map nodes arguments) + if_some nodes block
-call_are at text arguments None =
-    let a : nodes (tree.Call at None text arguments None) ≡ 1 + sum (map nodes arguments ++ []) = search the_lemmas in
-    let c = ap (λ (v : List ℕ). sum v) (append-nil (map nodes arguments)) in
-    omega (arith, a, c)
-call_are at text arguments (Some x) =
-    let a : nodes (tree.Call at None text arguments (Some x)) ≡ 1 + sum (map nodes arguments ++ nodes x ∷ []) = search the_lemmas in
-    let c = literals.sum_last (map nodes arguments) (nodes x) in
-    omega (arith, a, c)
+call_are at text arguments block =
+    let a = call_nodes at None text arguments block in
+    let c = sum_append (map nodes arguments) (held nodes block) in
+    let d = held_sum block in
+    omega (arith, a, c, d)
 
 call_nests : (at : ℕ) (text : List ℕ) (arguments : List Tree) (block : Option Tree) → nesting (tree.Call at None text arguments block) ≡ 1 + max (tall (map nesting arguments)) (if_some nesting block)
-call_nests at text arguments None =
-    let a : nesting (tree.Call at None text arguments None) ≡ 1 + tall (map nesting arguments ++ []) = search the_lemmas in
-    let c = ap (λ (v : List ℕ). tall v) (append-nil (map nesting arguments)) in
-    omega (arith, a, c)
-call_nests at text arguments (Some x) =
-    let a : nesting (tree.Call at None text arguments (Some x)) ≡ 1 + tall (map nesting arguments ++ nesting x ∷ []) = search the_lemmas in
-    let c = literals.tall_last (map nesting arguments) (nesting x) in
-    omega (arith, a, c)
+call_nests at text arguments block =
+    let a = call_nesting at None text arguments block in
+    let c = tall_append (map nesting arguments) (held nesting block) in
+    let d = held_tall block in
+    omega (arith, a, c, d)
 
 named_is : (name : Word) (found : Option (List Tree)) (block : Option Tree) → whole (named name found block) ≡ tree.Call name.at None name.text (primaries.listed_of found) block
 named_is name None None = refl
@@ -116,10 +111,10 @@ module _ (effort : Effort) (rec : Wanted → Reader Tree) (S T : Wanted → Form
 
   -- ---- a whole tree
 
-  counts_all : (C : Form Tree) (g : Test) (p : Reader Tree) → b.Less g goes → limits.Trees C g p → table.Operands (all_of C) goes (primaries.all_of turns rec within free p)
+  counts_all : (C : Form Tree) (g : Test) (p : Reader Tree) → Less g goes → limits.Trees C g p → table.Operands (all_of C) goes (primaries.all_of turns rec within free p)
   counts_all C g p less cp n =
       counts_bind_quiet (λ x. nothing (Whole x)) goes (λ x. pure (Whole x)) (told n) (cp n)
-      (λ x. counts_pure (Whole x) goes _ (told n) refl) (λ x. (still_pure (Whole x)).lets) (λ x. b.follows_nothing g goes (Whole x) less)
+      (λ x. counts_pure (Whole x) goes _ (told n) refl) (λ x. (still_pure (Whole x)).lets) (λ x. follows_nothing g goes (Whole x) less)
 
   counts_leaf : (kind : TokenKind) (make : ℕ → Tree) → ((at : ℕ) → nodes (make at) ≡ 1) → ((at : ℕ) → nesting (make at) ≡ 1)
       → limits.Trees (ex.leaf T within free (look_of kind) make) never (primaries.leaf turns rec within free (look_of kind) make)
@@ -131,22 +126,19 @@ module _ (effort : Effort) (rec : Wanted → Reader Tree) (S T : Wanted → Form
   counts_spawned : limits.Trees (ex.spawned T within free) never (primaries.spawned turns rec within free)
   counts_spawned n =
       let to : Tree → Tally = λ x. known (n + nodes x) (nesting x) in
-      counts_grown spawned_behind never (λ at. at) _ to (λ t x e. sym e.1) (exact_word effort k.Spawn never) (λ at. b.follows_never (spawned_behind at) never) n
+      counts_grown spawned_behind never (λ at. at) _ to (λ t x e. sym e.1) (exact_word effort k.Spawn never) (λ at. follows_never (spawned_behind at) never) n
       (λ at. counts_bind_quiet (λ body. nothing (tree.Spawn at None body)) never (λ body. pure (tree.Spawn at None body)) to (counts_plain effort rec S T given counts within free (n + 1) 1)
       (λ body. counts_pure (tree.Spawn at None body) never _ to (node_told n (tree.Spawn at None body) body (search the_lemmas) (search the_lemmas)))
       (λ body. (still_pure (tree.Spawn at None body)).lets)
-      (λ body. b.follows_never (nothing (tree.Spawn at None body)) never))
+      (λ body. follows_never (nothing (tree.Spawn at None body)) never))
 
   counts_statement : limits.Trees (f.parenthesized (T (Stmt within))) never (parenthesized turns (rec (Stmt within)))
   counts_statement n =
       counts_parenthesized effort (S (Stmt within)) (T (Stmt within)) goes_stmt (rec (Stmt within)) (given.exact (Stmt within))
-      (b.ahead_first (begins_stmt within) (seen l.Newline) (T (Stmt within)) (b.apart_seen (begins_stmt within) l.Newline refl) (given.stmt_begins within))
+      (first_tested false (begins_stmt within) (seen l.Newline) (T (Stmt within)) (look_apart (begins_stmt within) l.Newline refl) (given.stmt_begins within))
       (λ spaced. refl) (λ spaced. refl) (unknown n) (λ x. known (n + nodes x) (nesting x)) (counts.stmt within n)
 
   -- ---- names, `yield` and `super`, and variables
-
-  parenthesis_less : b.Less (tight_seen l.OpenParenthesis) goes
-  parenthesis_less = b.less_tight_seen l.OpenParenthesis goes refl
 
   abbrev named_behind : Word → Option (List Tree) → Form Operand
   named_behind name arguments = f.◌>>=◌ (f.maybe (ex.block T within free)) (λ block. nothing (named name arguments block))
@@ -156,27 +148,27 @@ module _ (effort : Effort) (rec : Wanted → Reader Tree) (S T : Wanted → Form
 
   counts_name : table.Operands (operands.name T within free) goes (primaries.name turns rec within free)
   counts_name n =
-      counts_grown name_behind goes (λ (name : Word). name.at) _ (told n) (λ t x e. sym e.1) (exact_ident effort never) (λ name. b.follows_never (name_behind name) goes) n
+      counts_grown name_behind goes (λ (name : Word). name.at) _ (told n) (λ t x e. sym e.1) (exact_ident effort never) (λ name. follows_never (name_behind name) goes) n
       (λ name. counts_bind (named_behind name) goes _ (told n) (exact_arguments effort rec S T given within free) (counts_arguments effort rec S T given counts within free (n + 1) 1)
       (λ arguments. counts_bind_quiet (λ block. nothing (named name arguments block)) goes (λ block. pure (named name arguments block)) (told n)
       (counts_maybe_block effort rec S T given counts within free (n + 1 + if_some (size_of_all nodes) arguments) (max 1 (if_some (top_of_all part_height) arguments)))
       (λ block. counts_pure (named name arguments block) goes _ (told n) (named_told n name arguments block))
       (λ block. (still_pure (named name arguments block)).lets)
-      (λ block. b.follows_nothing (bodies.begins_block turns rec free) goes (named name arguments block) (heads.block_less effort rec S T given within free)))
-      (λ arguments. b.follows_bind (tight_seen l.OpenParenthesis) goes (f.maybe (ex.block T within free)) (λ block. nothing (named name arguments block))
-      (b.follows_maybe (tight_seen l.OpenParenthesis) (tight_seen l.OpenParenthesis) (ex.block T within free) (λ look spaced e. e)
-      (b.follows_ahead (tight_seen l.OpenParenthesis) (tight_seen l.OpenParenthesis) (ex.block T within free) (heads.block_ahead effort rec S T given within free)))
-      (λ block. b.follows_nothing (tight_seen l.OpenParenthesis) goes (named name arguments block) parenthesis_less)))
+      (λ block. follows_nothing (bodies.begins_block turns rec free) goes (named name arguments block) (block_less turns rec free)))
+      (λ arguments. follows_bind (tight_seen l.OpenParenthesis) goes (f.maybe (ex.block T within free)) (λ block. nothing (named name arguments block))
+      (follows_maybe (tight_seen l.OpenParenthesis) (tight_seen l.OpenParenthesis) (ex.block T within free) (λ look spaced e. e)
+      (follows_ahead (tight_seen l.OpenParenthesis) (tight_seen l.OpenParenthesis) (ex.block T within free) (no_parenthesis free _ _)))
+      (λ block. follows_nothing (tight_seen l.OpenParenthesis) goes (named name arguments block) (parenthesis_less free))))
 
   counts_passed_on : (kind : TokenKind) (make : ℕ → Option (List Tree) → Operand) → ((n at : ℕ) (found : Option (List Tree)) → told n (make at found) ≡ with_arguments n found)
       → table.Operands (operands.passed_on T within free (look_of kind) make) goes (primaries.passed_on turns rec within free (look_of kind) make)
   counts_passed_on kind make is n =
       let behind : ℕ → Form Operand = λ at. f.◌>>=◌ (operands.arguments T within free) (λ arguments. nothing (make at arguments)) in
-      counts_grown behind goes (λ at. at) _ (told n) (λ t x e. sym e.1) (exact_word effort kind never) (λ at. b.follows_never (behind at) goes) n
+      counts_grown behind goes (λ at. at) _ (told n) (λ t x e. sym e.1) (exact_word effort kind never) (λ at. follows_never (behind at) goes) n
       (λ at. counts_bind_quiet (λ arguments. nothing (make at arguments)) goes (λ arguments. pure (make at arguments)) (told n) (counts_arguments effort rec S T given counts within free (n + 1) 1)
       (λ arguments. counts_pure (make at arguments) goes _ (told n) (is n at arguments))
       (λ arguments. (still_pure (make at arguments)).lets)
-      (λ arguments. b.follows_nothing (tight_seen l.OpenParenthesis) goes (make at arguments) parenthesis_less))
+      (λ arguments. follows_nothing (tight_seen l.OpenParenthesis) goes (make at arguments) (parenthesis_less free)))
 
   counts_variable : table.Operands (operands.variable T within free) goes (primaries.variable turns rec within free)
   counts_variable =
@@ -204,7 +196,7 @@ module _ (effort : Effort) (rec : Wanted → Reader Tree) (S T : Wanted → Form
     head look C p cp = inl (counts_weaken (Looks look) (looks_same look) (cp n))
 
     -- for a whole tree
-    tree_head : (look : TokenLook) (C : Form Tree) (g : Test) (p : Reader Tree) → b.Less g goes → limits.Trees C g p → Head look (all_of C) (primaries.all_of turns rec within free p)
+    tree_head : (look : TokenLook) (C : Form Tree) (g : Test) (p : Reader Tree) → Less g goes → limits.Trees C g p → Head look (all_of C) (primaries.all_of turns rec within free p)
     tree_head look C g p less cp = head look (all_of C) (primaries.all_of turns rec within free p) (counts_all C g p less cp)
 
     -- where it may stand
@@ -212,16 +204,16 @@ module _ (effort : Effort) (rec : Wanted → Reader Tree) (S T : Wanted → Form
     head_where look flag C p cp = way_where look flag C goes p (unknown n) (told n) (λ is. counts_weaken (Looks look) (looks_same look) (cp n))
 
     way : (look : TokenLook) → Head look (told_by look) (primaries.primary_by turns rec within free look)
-    way l.Int32 = tree_head l.Int32 _ never _ (b.less_never goes) (counts_number effort rec S T given counts within free)
-    way l.Int64 = tree_head l.Int64 _ never _ (b.less_never goes) (counts_number effort rec S T given counts within free)
-    way l.Text = tree_head l.Text _ never _ (b.less_never goes) (counts_text effort rec S T given counts within free)
-    way l.TextFirst = tree_head l.TextFirst _ never _ (b.less_never goes) (counts_insertions effort rec S T given counts within free)
-    way l.Nil = tree_head l.Nil _ never _ (b.less_never goes) (counts_leaf k.Nil (λ at. tree.Nil at) (λ at. search the_lemmas) (λ at. search the_lemmas))
-    way l.True = tree_head l.True _ never _ (b.less_never goes) (counts_leaf k.True (λ at. tree.True at) (λ at. search the_lemmas) (λ at. search the_lemmas))
-    way l.False = tree_head l.False _ never _ (b.less_never goes) (counts_leaf k.False (λ at. tree.False at) (λ at. search the_lemmas) (λ at. search the_lemmas))
+    way l.Int32 = tree_head l.Int32 _ never _ (less_never goes) (counts_number effort rec S T given counts within free)
+    way l.Int64 = tree_head l.Int64 _ never _ (less_never goes) (counts_number effort rec S T given counts within free)
+    way l.Text = tree_head l.Text _ never _ (less_never goes) (counts_text effort rec S T given counts within free)
+    way l.TextFirst = tree_head l.TextFirst _ never _ (less_never goes) (counts_insertions effort rec S T given counts within free)
+    way l.Nil = tree_head l.Nil _ never _ (less_never goes) (counts_leaf k.Nil (λ at. tree.Nil at) (λ at. search the_lemmas) (λ at. search the_lemmas))
+    way l.True = tree_head l.True _ never _ (less_never goes) (counts_leaf k.True (λ at. tree.True at) (λ at. search the_lemmas) (λ at. search the_lemmas))
+    way l.False = tree_head l.False _ never _ (less_never goes) (counts_leaf k.False (λ at. tree.False at) (λ at. search the_lemmas) (λ at. search the_lemmas))
     way l.KeywordSelf =
         head_where l.KeywordSelf (in_object within) _ _
-        (counts_all _ never _ (b.less_never goes) (counts_leaf k.KeywordSelf (λ at. tree.KeywordSelf at) (λ at. search the_lemmas) (λ at. search the_lemmas)))
+        (counts_all _ never _ (less_never goes) (counts_leaf k.KeywordSelf (λ at. tree.KeywordSelf at) (λ at. search the_lemmas) (λ at. search the_lemmas)))
     way l.InstanceVariable = head_where l.InstanceVariable (in_object within) _ _ counts_variable
     way l.Ident = head l.Ident _ _ counts_name
     way l.Yield = head_where l.Yield within.method _ _ (counts_passed_on k.Yield yielded yielded_told)
@@ -229,14 +221,14 @@ module _ (effort : Effort) (rec : Wanted → Reader Tree) (S T : Wanted → Form
     way l.Constant = tree_head l.Constant _ goes _ (λ look spaced e. e) (classes.counts_of_class effort rec S T given counts within free)
     way l.OpenBracket = tree_head l.OpenBracket _ goes _ (λ look spaced e. e) (counts_array effort rec S T given counts within free)
     way l.OpenBrace = tree_head l.OpenBrace _ goes _ (λ look spaced e. e) (counts_hash effort rec S T given counts within free)
-    way l.OpenParenthesis = tree_head l.OpenParenthesis _ never _ (b.less_never goes) counts_statement
-    way l.Spawn = tree_head l.Spawn _ never _ (b.less_never goes) counts_spawned
-    way l.If = tree_head l.If _ never _ (b.less_never goes) (counts_conditional effort rec S T given counts within free).0
-    way l.Unless = tree_head l.Unless _ never _ (b.less_never goes) (counts_conditional effort rec S T given counts within free).1
-    way l.While = tree_head l.While _ never _ (b.less_never goes) (counts_looping effort rec S T given counts within free).0
-    way l.Until = tree_head l.Until _ never _ (b.less_never goes) (counts_looping effort rec S T given counts within free).1
-    way l.Case = tree_head l.Case _ never _ (b.less_never goes) (counts_cases effort rec S T given counts within free)
-    way l.Select = tree_head l.Select _ never _ (b.less_never goes) (counts_select effort rec S T given counts within free)
+    way l.OpenParenthesis = tree_head l.OpenParenthesis _ never _ (less_never goes) counts_statement
+    way l.Spawn = tree_head l.Spawn _ never _ (less_never goes) counts_spawned
+    way l.If = tree_head l.If _ never _ (less_never goes) (counts_conditional effort rec S T given counts within free).0
+    way l.Unless = tree_head l.Unless _ never _ (less_never goes) (counts_conditional effort rec S T given counts within free).1
+    way l.While = tree_head l.While _ never _ (less_never goes) (counts_looping effort rec S T given counts within free).0
+    way l.Until = tree_head l.Until _ never _ (less_never goes) (counts_looping effort rec S T given counts within free).1
+    way l.Case = tree_head l.Case _ never _ (less_never goes) (counts_cases effort rec S T given counts within free)
+    way l.Select = tree_head l.Select _ never _ (less_never goes) (counts_select effort rec S T given counts within free)
     way other = inr (refl, λ w x led c. c)
 
   counts_here : table.Primary effort rec T within free
@@ -245,8 +237,5 @@ module _ (effort : Effort) (rec : Wanted → Reader Tree) (S T : Wanted → Form
       (counts_by (primaries.primary_by turns rec within free) told_by goes (way n))
 
 module _ (effort : Effort) (rec : Wanted → Reader Tree) (S T : Wanted → Form Tree) (given : claims.Given effort rec S T) (counts : limits.GivenCounts rec T) where
-  pub counts_of_class : (within : Within) (free : Bool) → table.OfClass effort rec T within free
-  counts_of_class within free = classes.counts_of_class effort rec S T given counts within free
-
   pub counts_primary : (within : Within) (free : Bool) → table.Primary effort rec T within free
   counts_primary within free = counts_here effort rec S T given counts within free

@@ -23,43 +23,36 @@ use Rattle.cr_exact.specs.Reader.{Reader, Test, passes, seen, either, never, cho
 use Rattle.cr_exact.specs.Lists.{optional}
 use Rattle.cr_exact.specs.Exact.{Stops, Effort, Any}
 use Rattle.cr_exact.specs.Limits.{known, unknown, Counts, tall, if_some}
-use Rattle.cr_exact.proofs.Tokens.{Passing as NextPasses, Failing, Looks, exact_word}
-use Rattle.cr_exact.proofs.Nodes.{exact_last}
-use Rattle.cr_exact.proofs.Limits.{counts_bind, counts_bind_quiet, counts_pure, counts_map, counts_goes, counts_weaken, still_pure}
-use Rattle.cr_exact.proofs.LimitSteps.{counts_grown, counts_wrapped}
-use Rattle.cr_exact.proofs.LimitChoices.{Way, counts_choose, counts_by, counts_allowed, counts_last, counts_here, passing_same, failing_same, looks_same}
-use Rattle.cr_exact.proofs.LimitParts.{sum_cons, tall_cons, known_is, rises_part, rises_optional}
 use Rattle.cr_descent.specs.Goes as g
 use Rattle.cr_descent.specs.Operand.{Operand, Name, Field, Element, Variable, Yielding, Above, Passing, Whole, whole}
 use Rattle.cr_descent.specs.Operations as operations
 use Rattle.cr_descent.specs.Statements as statements
 use Rattle.cr_descent.specs.Statements.{is_assigning}
-use Rattle.cr_descent.proofs.Lists.{never_stops}
-use Rattle.cr_descent.proofs.Begins.{stops_less, led_seen, follows_nothing}
+use Rattle.cr_exact.proofs.TokenTests.{never_stops, stops_less}
+use Rattle.cr_exact.proofs.Tokens.{Passing as NextPasses, Failing, Looks, exact_word}
+use Rattle.cr_exact.proofs.Heads.{led_seen}
+use Rattle.cr_exact.proofs.Follows.{follows_nothing}
+use Rattle.cr_exact.proofs.Nodes.{exact_last}
+use Rattle.cr_exact.proofs.Limits.{counts_bind, counts_bind_quiet, counts_pure, counts_map, counts_goes, counts_weaken, still_pure}
+use Rattle.cr_exact.proofs.LimitSteps.{counts_grown, counts_wrapped}
+use Rattle.cr_exact.proofs.LimitChoices.{Way, counts_choose, counts_by, counts_allowed, counts_last, counts_here, passing_same, failing_same, looks_same}
+use Rattle.cr_exact.proofs.LimitParts.{sum_cons, tall_cons, known_is, rises_part, rises_optional}
 use Rattle.cr_descent.proofs.StatementForms as forms
 use Rattle.cr_descent.proofs.Claims as claims
 use Rattle.cr_descent.proofs.LimitClaims as limits
 use Rattle.cr_descent.proofs.LimitTable.{part_height}
-use Rattle.cr_descent.proofs.Commands.{Settled, settled_same, tight_nil, spaced_nil}
+use Rattle.cr_exact.proofs.TwoTokens.{Settled, settled_same, tight_nil, spaced_nil}
 use Rattle.cr_descent.proofs.Statements as st
 use Rattle.cr_descent.proofs.Statements.{simple_or, closed}
 use Rattle.cr_descent.proofs.Simple as simples
 use Rattle.cr_descent.proofs.Links.{exact_postfix}
-use Rattle.cr_descent.proofs.LimitCommands.{counts_unless}
+use Rattle.cr_exact.proofs.LimitTwoTokens.{counts_unless}
 use Rattle.cr_descent.proofs.LimitLinks.{counts_postfix}
 use Rattle.cr_descent.proofs.LimitOperations.{counts_or}
-use Rattle.cr_descent.proofs.LimitStatements.{held, held_sum, held_tall, held_part, told, passing_told, yield_is, yield_nests, super_is, super_nests, bare_is, bare_nests, counts_assignment, counts_command, counts_passing, counts_operated}
+use Rattle.cr_descent.proofs.LimitStatements.{passing_told, yield_is, yield_nests, super_is, super_nests, bare_is, bare_nests, counts_assignment, counts_command, counts_passing, counts_operated}
+use Rattle.cr_descent.proofs.LimitNodes.{held, maybe_told, told}
 
 -- ---- the nodes of jumps and modifiers
-
--- A node with at most one part is counted with it.
-leaving_told : (n : ℕ) (x : Tree) (value : Option Tree) → nodes x ≡ 1 + sum (held nodes value) → nesting x ≡ 1 + tall (held nesting value)
-    → told n x ≡ known (n + 1 + if_some nodes value) (max 1 (if_some part_height value))
-leaving_told n x value many high =
-    let a = held_sum value in
-    let b = held_tall value in
-    let c = held_part value 1 (omega arith) in
-    known_is _ _ _ _ (omega (arith, many, a)) (omega (arith, high, b, c))
 
 return_is : (at : ℕ) (value : Option Tree) → nodes (tree.Return at value) ≡ 1 + sum (held nodes value)
 return_is at None = search the_lemmas
@@ -228,9 +221,9 @@ module _ (effort : Effort) (sure : Type 0) (rec : Wanted → Reader Tree) (S T U
 
   simple_way : (n : ℕ) (look : TokenLook) → Way look (forms.simple_by T within look) g.goes_simple (unknown n) (told n) (statements.simple_by effort.turns rec within look)
   simple_way n l.Return = inl (counts_allowed (within.method && not within.block) _ g.goes_simple _ (counts_weaken (Looks l.Return) (looks_same l.Return)
-      (counts_leaving n k.Return (λ at value. tree.Return at value) (λ at value. leaving_told n (tree.Return at value) value (return_is at value) (return_nests at value)))))
+      (counts_leaving n k.Return (λ at value. tree.Return at value) (λ at value. maybe_told n (tree.Return at value) value (return_is at value) (return_nests at value)))))
   simple_way n l.Next = inl (counts_allowed (within.in_loop || within.block) _ g.goes_simple _ (counts_weaken (Looks l.Next) (looks_same l.Next)
-      (counts_leaving n k.Next (λ at value. tree.Next at value) (λ at value. leaving_told n (tree.Next at value) value (next_is at value) (next_nests at value)))))
+      (counts_leaving n k.Next (λ at value. tree.Next at value) (λ at value. maybe_told n (tree.Next at value) value (next_is at value) (next_nests at value)))))
   simple_way n l.Break = inl (counts_allowed within.in_loop _ g.goes_simple _ (counts_weaken (Looks l.Break) (looks_same l.Break) (counts_breaking n)))
   simple_way n l.Bang = inl (counts_weaken (Looks l.Bang) (looks_same l.Bang) (any_or n))
   simple_way n l.Minus = inl (counts_weaken (Looks l.Minus) (looks_same l.Minus) (any_or n))

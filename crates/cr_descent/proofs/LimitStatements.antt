@@ -1,5 +1,5 @@
 -- What is counted behind an operand that begins a statement.
-use Rattle.std.proofs.Common.{◌≡◌, ℕ, ◌+◌, ◌<◌, max, true, false, List, [], ◌∷◌, ◌++◌, map, Option, Some, None, refl, sym, arith}
+use Rattle.std.proofs.Common.{◌≡◌, ℕ, ◌+◌, ◌<◌, max, true, false, List, [], ◌++◌, map, Option, Some, None, refl, sym, arith}
 use Rattle.std.specs.Prelude.{sum}
 use Rattle.cr_syntax.specs.declared.look.TokenLook.{TokenLook}
 use Rattle.cr_syntax.specs.declared.look.TokenLook.TheVariants as l
@@ -16,59 +16,31 @@ use Rattle.cr_grammar.specs.Expressions as ex
 use Rattle.cr_exact.specs.Reader.{Reader, seen, either, never, part, pure, ◌>>=◌}
 use Rattle.cr_exact.specs.Lists.{optional}
 use Rattle.cr_exact.specs.Exact.{Effort, Any}
-use Rattle.cr_exact.specs.Limits.{Tally, known, Counts, tall, size_of_all, top_of_all, if_some}
+use Rattle.cr_exact.specs.Limits.{known, Counts, tall, size_of_all, top_of_all, if_some}
+use Rattle.cr_descent.specs.Goes as g
+use Rattle.cr_descent.specs.Bodies.{doblock}
+use Rattle.cr_descent.specs.Statements as statements
+use Rattle.cr_exact.proofs.TokenTests.{never_stops, stops_less}
 use Rattle.cr_exact.proofs.Tokens.{Passing}
+use Rattle.cr_exact.proofs.Heads.{led_seen}
+use Rattle.cr_exact.proofs.Follows.{follows_nothing}
 use Rattle.cr_exact.proofs.Nodes.{exact_part}
 use Rattle.cr_exact.proofs.Limits.{counts_bind, counts_bind_quiet, counts_pure, counts_goes, counts_weaken, still_pure}
 use Rattle.cr_exact.proofs.LimitSteps.{counts_wrapped}
 use Rattle.cr_exact.proofs.LimitChoices.{passing_same}
-use Rattle.cr_exact.proofs.LimitParts.{sum_cons, sum_append, tall_cons, tall_append, known_is, rises_part, rises_optional}
-use Rattle.cr_descent.specs.Goes as g
-use Rattle.cr_descent.specs.Bodies.{doblock}
-use Rattle.cr_descent.specs.Statements as statements
+use Rattle.cr_exact.proofs.LimitParts.{sum_append, tall_append, known_is, rises_part, rises_optional}
+use Rattle.cr_exact.proofs.LimitLists.{rises_listed_parts}
 use Rattle.cr_descent.proofs.Claims as claims
 use Rattle.cr_descent.proofs.LimitClaims as limits
-use Rattle.cr_descent.proofs.LimitLists.{rises_listed_parts}
 use Rattle.cr_descent.proofs.LimitBodies.{counts_doblock}
 use Rattle.cr_descent.proofs.LimitOperations.{counts_or_from}
-use Rattle.cr_descent.proofs.Lists.{never_stops}
-use Rattle.cr_descent.proofs.Begins.{stops_less, led_seen, follows_nothing}
 use Rattle.cr_descent.proofs.StatementForms as forms
-use Rattle.cr_descent.proofs.Statements.{simple_or, simple_word, exact_assigning, exact_arguments, or_lineless, comma_apart, block_led, follows_block, arguments_less}
+use Rattle.cr_descent.proofs.Statements.{simple_or, simple_word, exact_assigning, exact_arguments, comma_apart, block_led, follows_block, arguments_less}
 use Rattle.cr_descent.proofs.LimitTable.{part_height}
-use Rattle.cr_descent.proofs.LimitTypes.{parts_high}
+use Rattle.cr_descent.proofs.LimitNodes.{told, parts_high, held, held_sum, held_high, call_nodes, call_nesting}
+use Rattle.cr_descent.proofs.Bodies.{or_halts}
 
 -- ---- the nodes of calls and assignments
-
-abbrev pub held : (Tree → ℕ) → Option Tree → List ℕ
-held f None = []
-held f (Some x) = f x ∷ []
-
-call_below : (at : ℕ) (receiver : Option Tree) (name : List ℕ) (arguments : List Tree) (block : Option Tree)
-    → nodes (tree.Call at receiver name arguments block) ≡ 1 + sum (held nodes receiver ++ map nodes arguments ++ held nodes block)
-call_below at None name arguments None = search the_lemmas
-call_below at None name arguments (Some block) = search the_lemmas
-call_below at (Some x) name arguments None = search the_lemmas
-call_below at (Some x) name arguments (Some block) = search the_lemmas
-
-call_nests_below : (at : ℕ) (receiver : Option Tree) (name : List ℕ) (arguments : List Tree) (block : Option Tree)
-    → nesting (tree.Call at receiver name arguments block) ≡ 1 + tall (held nesting receiver ++ map nesting arguments ++ held nesting block)
-call_nests_below at None name arguments None = search the_lemmas
-call_nests_below at None name arguments (Some block) = search the_lemmas
-call_nests_below at (Some x) name arguments None = search the_lemmas
-call_nests_below at (Some x) name arguments (Some block) = search the_lemmas
-
-pub held_sum : (x : Option Tree) → sum (held nodes x) ≡ if_some nodes x
-held_sum None = refl
-held_sum (Some x) = let a = sum_cons (nodes x) [] in omega (arith, a)
-
-pub held_tall : (x : Option Tree) → tall (held nesting x) ≡ if_some nesting x
-held_tall None = refl
-held_tall (Some x) = let a = tall_cons (nesting x) [] in omega (arith, a)
-
-pub held_part : (x : Option Tree) (height : ℕ) → 0 < height → max height (if_some part_height x) ≡ max height (if_some nesting x + 1)
-held_part None height some = omega (arith, some)
-held_part (Some x) height some = refl
 
 abbrev call : Option Tree → ℕ → List ℕ → List Tree → Option Tree → Tree
 call receiver at name arguments block = tree.Call at receiver name arguments block
@@ -77,8 +49,8 @@ call receiver at name arguments block = tree.Call at receiver name arguments blo
 call_is : (receiver : Option Tree) (at : ℕ) (name : List ℕ) (arguments : List Tree) (block : Option Tree)
     → nodes (call receiver at name arguments block) ≡ nodes (call receiver at name [] None) + size_of_all nodes arguments + if_some nodes block
 call_is receiver at name arguments block =
-    let whole = call_below at receiver name arguments block in
-    let bare = call_below at receiver name [] None in
+    let whole = call_nodes at receiver name arguments block in
+    let bare = call_nodes at receiver name [] None in
     let a = sum_append (held nodes receiver ++ map nodes arguments) (held nodes block) in
     let b = sum_append (held nodes receiver) (map nodes arguments) in
     let c = held_sum block in
@@ -89,18 +61,17 @@ call_is receiver at name arguments block =
 call_nests : (receiver : Option Tree) (at : ℕ) (name : List ℕ) (arguments : List Tree) (block : Option Tree)
     → nesting (call receiver at name arguments block) ≡ max (max (nesting (call receiver at name [] None)) (top_of_all part_height arguments)) (if_some part_height block)
 call_nests receiver at name arguments block =
-    let whole = call_nests_below at receiver name arguments block in
-    let bare = call_nests_below at receiver name [] None in
+    let whole = call_nesting at receiver name arguments block in
+    let bare = call_nesting at receiver name [] None in
     let a = tall_append (held nesting receiver ++ map nesting arguments) (held nesting block) in
     let b = tall_append (held nesting receiver) (map nesting arguments) in
-    let c = held_tall block in
     let d = tall_append (held nesting receiver ++ []) [] in
     let i = tall_append (held nesting receiver) [] in
     let height = nesting (call receiver at name [] None) in
     let some : 0 < height = omega (arith, bare) in
     let e = parts_high height arguments some in
-    let h = held_part block (max height (top_of_all part_height arguments)) (omega (arith, some)) in
-    omega (arith, whole, bare, a, b, c, d, e, h, i)
+    let h = held_high (max height (top_of_all part_height arguments)) block (omega (arith, some)) in
+    omega (arith, whole, bare, a, b, d, e, h, i)
 
 assign_is : (at : ℕ) (target : Tree) (operator : Assignment) (operator_at : ℕ) (value : Tree)
     → nodes (tree.Assign at target operator operator_at value) ≡ 1 + nodes target + nodes value
@@ -129,9 +100,6 @@ pub bare_nests : (at : ℕ) → nesting (tree.BareSuper at) ≡ 1
 bare_nests at = grind (arith, the_lemmas)
 
 -- ---- what is counted with a statement, on top of so many nodes
-
-abbrev pub told : ℕ → Tree → Tally
-told n x = known (n + nodes x) (nesting x)
 
 assign_told : (n : ℕ) (at : ℕ) (target : Tree) (operator : Assignment) (operator_at : ℕ) (value : Tree)
     → told n (tree.Assign at target operator operator_at value) ≡ known (n + nodes target + 1 + nodes value) (max (nesting target + 1) (nesting value + 1))
@@ -178,7 +146,7 @@ module _ (effort : Effort) (rec : Wanted → Reader Tree) (S T : Wanted → Form
   counts_arguments n height =
       let some = given.some (Or within false) in
       rises_listed_parts effort (S (Or within false)) (T (Or within false)) (g.goes_or false) (part (rec (Or within false))) (exact_part _ (given.exact (Or within false)))
-      (or_lineless effort rec S T given within) some.0 some.1 some.2 comma_apart nodes part_height (rises_part nodes nesting (counts.or within false)) n height
+      (or_halts effort rec S T given within false l.Newline refl) some.0 some.1 some.2 comma_apart nodes part_height (rises_part nodes nesting (counts.or within false)) n height
 
   -- args [ doblock ]
   pub counts_command : (n : ℕ) (receiver : Option Tree) (name : Word)

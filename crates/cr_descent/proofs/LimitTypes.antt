@@ -1,8 +1,7 @@
 -- What is counted in types.
-use Rattle.std.proofs.Common.{◌≡◌, ℕ, ◌+◌, ◌<◌, max, Bool, true, false, cond, List, [], ◌∷◌, ◌++◌, map, Option, Some, None, refl, sym, ap, ◌∙◌, append_assoc, arith}
+use Rattle.std.proofs.Common.{◌≡◌, ℕ, ◌+◌, max, Bool, true, false, cond, List, [], ◌∷◌, ◌++◌, map, Option, Some, None, refl, sym, ap, ◌∙◌, append_assoc, arith}
 use Rattle.std.specs.Prelude.{sum}
 use Rattle.std.proofs.lemmas.List.{append-nil, append_cancel_right, map-append}
-use Rattle.std.proofs.lemmas.Simd.{map-map}
 use Rattle.cr_syntax.specs.declared.look.TokenLook.TheVariants as l
 use Rattle.cr_syntax.specs.declared.token.Token.{Token}
 use Rattle.cr_syntax.specs.declared.token.TokenKind.TheVariants as k
@@ -19,22 +18,27 @@ use Rattle.cr_exact.specs.Reader.{State, Outcome, Found, Failed, Reader, and_the
 use Rattle.cr_exact.specs.Lists.{optional, listed}
 use Rattle.cr_exact.specs.Exact.{at, head, Effort, Exact, Any}
 use Rattle.cr_exact.specs.Limits.{Tally, known, unknown, Counts, Second, Marks, Whole, Rises, last_place, tall, size_of_all, top_of_all, if_some}
+use Rattle.cr_descent.specs.Goes.{goes_type}
+use Rattle.cr_descent.specs.Words.{constant}
+use Rattle.cr_descent.specs.Types as types
+use Rattle.cr_exact.proofs.TokenTests.{same_look_is, less_seen, less_left, less_right, stops_less, less_either}
 use Rattle.cr_exact.proofs.Sequence.{exact_bind, weaken, bind_found, parts_found}
-use Rattle.cr_exact.proofs.Tokens.{Passing, same_look_is, exact_word}
+use Rattle.cr_exact.proofs.Tokens.{Passing, exact_word}
+use Rattle.cr_exact.proofs.Forms.{made_in}
+use Rattle.cr_exact.proofs.Heads.{led_seen, led, first_bind, led_at}
+use Rattle.cr_exact.proofs.Follows.{follows_bind, follows_many, follows_never, follows_led, follows_nothing}
 use Rattle.cr_exact.proofs.Nodes.{exact_part, exact_beside}
 use Rattle.cr_exact.proofs.Limits.{head-some, some_behind, last_place_behind, second, counts_bind_by, counts_bind, counts_bind_quiet, counts_still_then, counts_pure, counts_silent, counts_weaken, counts_map, counts_goes, still_pure, still_take, still_many, still_bind}
 use Rattle.cr_exact.proofs.LimitSteps.{second_node, adds_grow, adds_beside, counts_grown}
 use Rattle.cr_exact.proofs.LimitChoices.{passing_same}
-use Rattle.cr_exact.proofs.LimitParts.{sum_cons, sum_append, tall_cons, tall_append, tall_above, known_is, rises_part, rises_beside, rises_pure, rises_many}
-use Rattle.cr_descent.specs.Goes.{goes_type}
-use Rattle.cr_descent.specs.Words.{constant}
-use Rattle.cr_descent.specs.Types as types
-use Rattle.cr_descent.proofs.Begins as b
+use Rattle.cr_exact.proofs.LimitParts.{sum_cons, sum_append, tall_cons, tall_append, known_is, rises_part, rises_beside, rises_pure, rises_many}
+use Rattle.cr_exact.proofs.LimitLists.{still_word, still_optional, rises_listed_parts, rises_tight_or}
 use Rattle.cr_descent.proofs.Claims as claims
 use Rattle.cr_descent.proofs.LimitClaims as limits
-use Rattle.cr_descent.proofs.LimitLists.{still_word, still_optional, rises_listed_parts, rises_tight_or}
 use Rattle.cr_descent.proofs.Words.{exact_constant}
 use Rattle.cr_descent.proofs.Types as t
+use Rattle.cr_descent.proofs.LimitNodes.{parts_high}
+use Rattle.cr_descent.proofs.LimitTable.{part_height}
 
 -- ---- the nodes of a type
 
@@ -42,18 +46,11 @@ use Rattle.cr_descent.proofs.Types as t
 abbrev pub atom_nodes : ex.Atom → ℕ
 atom_nodes a = 1 + size_of_all nodes a.arguments + if_some (λ _. 1) a.question
 
-abbrev pub high_part : Tree → ℕ
-high_part x = nesting x + 1
-
 abbrev pub atom_height : ex.Atom → ℕ
-atom_height a = max 1 (top_of_all high_part a.arguments)
+atom_height a = max 1 (top_of_all part_height a.arguments)
 
 abbrev pub asked_height : ex.Atom → ℕ
 asked_height a = max (atom_height a) (if_some (λ _. 1) a.question)
-
-pub parts_high : (height : ℕ) (xs : List Tree) → 0 < height → max height (top_of_all high_part xs) ≡ max height (tall (map nesting xs) + 1)
-parts_high height xs some =
-    ap (λ (v : List ℕ). max height (tall v)) (sym (map-map (λ n. n + 1) nesting xs)) ∙ tall_above height (map nesting xs) some
 
 pub atom_is : (at : ℕ) (names : List (List ℕ)) (arguments : List Tree) → nodes (tree.Atom at names arguments) ≡ 1 + sum (map nodes arguments)
 atom_is at names arguments = search the_lemmas
@@ -213,24 +210,24 @@ module _ (effort : Effort) (rec : Wanted → Reader Tree) (S T : Wanted → Form
   counts_path n =
       counts_grown t.rest_of goes_path (λ (first : Word). first.at)
       (λ first. many (seen l.ColonColon) (expect l.ColonColon >> constant) effort.turns >>= λ more. pure (t.path_of first more)) (λ x. known (n + 1) 1)
-      (λ u x e. sym e.1) (exact_constant effort never) (λ first. b.follows_never (t.rest_of first) goes_path) n
+      (λ u x e. sym e.1) (exact_constant effort never) (λ first. follows_never (t.rest_of first) goes_path) n
       (λ first. counts_still_then (f.many t.one_more) (λ more. f.nothing (t.path_of first more)) goes_path (λ more. pure (t.path_of first more)) (known (n + 1) 1) (λ x. known (n + 1) 1)
       (still_many (seen l.ColonColon) effort.turns (still_bind (still_word l.ColonColon) (λ at. still_take _)))
       (λ more. counts_pure (t.path_of first more) goes_path (known (n + 1) 1) (λ x. known (n + 1) 1) refl)
       (λ more. (still_pure (t.path_of first more)).lets))
 
   rises_arguments : (with_arguments : Bool)
-      → Rises (size_of_all nodes) (top_of_all high_part) Any (ex.type_arguments T with_arguments) (tight_seen l.OpenParenthesis) (types.type_arguments effort.turns rec with_arguments)
+      → Rises (size_of_all nodes) (top_of_all part_height) Any (ex.type_arguments T with_arguments) (tight_seen l.OpenParenthesis) (types.type_arguments effort.turns rec with_arguments)
   unfolding same_look
   rises_arguments true =
       let some = given.some (Written true) in
       rises_tight_or effort (f.listed (S (Written true))) (f.listed (T (Written true))) (either (seen l.Comma) goes_type) (listed effort.turns (part (rec (Written true))))
-      (t.exact_types effort rec S T given) (b.ahead_bind (seen l.Newline) (T (Written true)) _ (t.no_line effort rec S T given true)) (λ spaced. refl) (λ spaced. refl)
-      [] (size_of_all nodes) (top_of_all high_part) refl refl
+      (t.exact_types effort rec S T given) (first_bind false (seen l.Newline) (T (Written true)) _ (t.no_line effort rec S T given true)) (λ spaced. refl) (λ spaced. refl)
+      [] (size_of_all nodes) (top_of_all part_height) refl refl
       (rises_listed_parts effort (S (Written true)) (T (Written true)) goes_type (part (rec (Written true))) (exact_part (rec (Written true)) (given.exact (Written true)))
       (t.no_line effort rec S T given true) some.0 some.1 some.2 (λ look spaced is. rw (same_look_is look l.Comma is) refl)
-      nodes high_part (rises_part nodes nesting (counts.written true)))
-  rises_arguments false = rises_pure (size_of_all nodes) (top_of_all high_part) (tight_seen l.OpenParenthesis) [] refl refl
+      nodes part_height (rises_part nodes nesting (counts.written true)))
+  rises_arguments false = rises_pure (size_of_all nodes) (top_of_all part_height) (tight_seen l.OpenParenthesis) [] refl refl
 
   abbrev make : ex.Path → List Tree → Option ℕ → ex.Atom
   make path arguments question = t.atom_of effort rec S T given path arguments question
@@ -249,11 +246,11 @@ module _ (effort : Effort) (rec : Wanted → Reader Tree) (S T : Wanted → Form
       (λ question. counts_pure (make path arguments question) goes_atom (alone n (make path arguments None)) (alone n) refl)
       (λ question. (still_pure (make path arguments question)).lets))
       (λ arguments. t.question_follows effort rec S T given (tight_seen l.OpenParenthesis) refl
-      (b.less_right (tight_seen l.OpenParenthesis) goes_path (either (tight_seen l.OpenParenthesis) (t.goes_question effort rec S T given))
-      (b.less_left (tight_seen l.OpenParenthesis) (tight_seen l.OpenParenthesis) (t.goes_question effort rec S T given) (λ look spaced e. e)))
+      (less_right (tight_seen l.OpenParenthesis) goes_path (either (tight_seen l.OpenParenthesis) (t.goes_question effort rec S T given))
+      (less_left (tight_seen l.OpenParenthesis) (tight_seen l.OpenParenthesis) (t.goes_question effort rec S T given) (λ look spaced e. e)))
       (λ question. make path arguments question)))
-      (λ path. b.follows_bind goes_path goes_atom _ _ (t.arguments_follow effort rec S T given with_arguments)
-      (λ arguments. t.question_follows effort rec S T given goes_path refl (b.less_left goes_path goes_path (either (tight_seen l.OpenParenthesis) (t.goes_question effort rec S T given)) (λ look spaced e. e))
+      (λ path. follows_bind goes_path goes_atom _ _ (t.arguments_follow effort rec S T given with_arguments)
+      (λ arguments. t.question_follows effort rec S T given goes_path refl (less_left goes_path goes_path (either (tight_seen l.OpenParenthesis) (t.goes_question effort rec S T given)) (λ look spaced e. e))
       (λ question. make path arguments question)))
 
   -- The `?` is the last token of an atom that has one.
@@ -304,32 +301,32 @@ module _ (effort : Effort) (rec : Wanted → Reader Tree) (S T : Wanted → Form
 
   counts_type_atom : (with_arguments : Bool) → Whole atom_nodes asked_height Any (ex.atom T with_arguments) goes_atom (types.type_atom effort.turns rec with_arguments)
   counts_type_atom with_arguments n =
-      counts_map (ex.atom T with_arguments) (t.alone_back (ex.atom T with_arguments))
+      counts_map (ex.atom T with_arguments) (made_in (ex.atom T with_arguments) (λ y. y))
       (counts_bind_by (λ a. f.nothing a) goes_atom (λ a. types.question_node effort.turns rec a.question >> pure a) (λ a. known (n + atom_nodes a) (asked_height a)) (λ a. a.question)
       (t.exact_atom_alone effort rec S T given with_arguments) (counts_atom_alone with_arguments n)
       (λ a. second_question a a.question (n + 1 + size_of_all nodes a.arguments) (atom_height a) (λ v. known (n + atom_nodes v) (asked_height v)) (known_is _ _ _ _ (omega arith) refl))
       (atom_marks with_arguments)
-      (λ a. b.follows_nothing goes_atom goes_atom a (λ look spaced e. e)))
+      (λ a. follows_nothing goes_atom goes_atom a (λ look spaced e. e)))
 
   -- a type
   pub counts_written : (with_arguments : Bool) → limits.Trees (ex.written T with_arguments) goes_type (types.written effort.turns rec with_arguments)
   unfolding same_look
   counts_written with_arguments n =
-      counts_goes goes_type (b.stops_less goes_union goes_type (b.less_either (seen l.Pipe) goes_atom goes_type (b.less_seen l.Pipe goes_type (λ spaced. refl)) (t.atom_less effort rec S T given)))
+      counts_goes goes_type (stops_less goes_union goes_type (less_either (seen l.Pipe) goes_atom goes_type (less_seen l.Pipe goes_type (λ spaced. refl)) (t.atom_less effort rec S T given)))
       (counts_bind (rest_of T) goes_union _ (λ x. known (n + nodes x) (nesting x)) (t.exact_type_atom effort rec S T given with_arguments) (counts_type_atom with_arguments n)
       (λ first. counts_bind_quiet (λ more. f.nothing (union first more)) goes_union _ (λ x. known (n + nodes x) (nesting x))
       (rises_many effort (seen l.Pipe) goes_atom (λ look spaced is. rw (same_look_is look l.Pipe is) (t.pipe_stops effort rec S T given spaced)) (one_atom S) (one_atom T) (expect l.Pipe >> beside (types.type_atom effort.turns rec with_arguments))
       (weaken _ (exact_bind (λ _. ex.atom S with_arguments) (λ _. ex.atom T with_arguments) goes_atom _ (exact_word effort k.Pipe never)
       (λ _. exact_beside (types.type_atom effort.turns rec with_arguments) (t.exact_type_atom effort rec S T given with_arguments))
-      (λ _. t.atom_some effort rec S T given with_arguments) (λ _. b.follows_never (ex.atom T with_arguments) goes_atom)))
-      (λ w x rest c. b.led_seen l.Pipe w rest (b.led_at l.Pipe w c.0 c.1 c.2 c.3 c.4))
+      (λ _. t.atom_some effort rec S T given with_arguments) (λ _. follows_never (ex.atom T with_arguments) goes_atom)))
+      (λ w x rest c. led_seen l.Pipe w rest (led_at l.Pipe w c.0 c.1 c.2 c.3 c.4))
       atom_nodes asked_height one_more effort.turns (n + atom_nodes first) (asked_height first))
       (λ more. counts_pure (union first more) goes_union _ (λ x. known (n + nodes x) (nesting x)) (union_told n first more))
       (λ more. (still_pure (union first more)).lets)
-      (λ more. b.follows_nothing goes_union goes_union (union first more) (λ look spaced e. e)))
-      (λ first. b.follows_bind goes_atom goes_union _ _
-      (b.follows_many goes_atom (one_atom T) (b.follows_led l.Pipe goes_atom goes_atom (one_atom T) (t.pipe_stops effort rec S T given) (b.led l.Pipe _)))
-      (λ more. b.follows_nothing goes_atom goes_union (union first more) (b.less_right goes_atom (seen l.Pipe) goes_atom (λ look spaced e. e))))) where
+      (λ more. follows_nothing goes_union goes_union (union first more) (λ look spaced e. e)))
+      (λ first. follows_bind goes_atom goes_union _ _
+      (follows_many goes_atom (one_atom T) (follows_led l.Pipe goes_atom goes_atom (one_atom T) (t.pipe_stops effort rec S T given) (led l.Pipe _)))
+      (λ more. follows_nothing goes_atom goes_union (union first more) (less_right goes_atom (seen l.Pipe) goes_atom (λ look spaced e. e))))) where
         union : ex.Atom → List ex.Atom → Tree
         union first more = tree.Union (ex.all_atoms (first ∷ more))
 
@@ -345,4 +342,4 @@ module _ (effort : Effort) (rec : Wanted → Reader Tree) (S T : Wanted → Form
             (counts_bind (λ _. ex.atom T with_arguments) goes_atom (λ _. beside (types.type_atom effort.turns rec with_arguments)) (λ x. known (m + atom_nodes x) (max h (asked_height x)))
             (exact_word effort k.Pipe never) (counts_silent (f.word l.Pipe) never (known m h) (still_word l.Pipe))
             (λ _. rises_beside atom_nodes asked_height (counts_type_atom with_arguments) m h)
-            (λ _. b.follows_never (ex.atom T with_arguments) goes_atom))
+            (λ _. follows_never (ex.atom T with_arguments) goes_atom))

@@ -1,5 +1,5 @@
 -- A postfix, and a clause of `select`, are read exactly.
-use Rattle.std.proofs.Common.{◌≡◌, ℕ, zero, suc, Bool, true, false, List, [], ◌∷◌, ◌++◌, ◌⊎◌, inl, inr, refl, sym, ap, subst, ◌∙◌, append_assoc}
+use Rattle.std.proofs.Common.{◌≡◌, ℕ, Bool, true, false, List, [], ◌∷◌, ◌++◌, ◌⊎◌, inl, inr, refl, sym, ap, subst, ◌∙◌, append_assoc}
 use Rattle.std.specs.Prelude.{Option, Some, None}
 use Rattle.std.specs.Str.{bytes_eq}
 use Rattle.std.proofs.lemmas.List.{append-nil}
@@ -13,34 +13,35 @@ use Rattle.cr_grammar.specs.declared.tree.Tree.TheVariants as tree
 use Rattle.cr_grammar.specs.declared.within.Within.{Within}
 use Rattle.cr_grammar.specs.Forms.{Form, nothing, ◌<|>◌, passing, where_true, maybe, repeated_of, repeated, word, Word, is_tight, tight, seps, parenthesized}
 use Rattle.cr_grammar.specs.Forms as f
-use Rattle.cr_grammar.specs.Laws.{begins_type, begins_or}
+use Rattle.cr_grammar.specs.Laws.{begins_type}
 use Rattle.cr_grammar.specs.Operators as names
-use Rattle.cr_grammar.specs.Wanted.{Wanted, Written, Or, in_block}
+use Rattle.cr_grammar.specs.Wanted.{Wanted, Written, Or, Stmt}
 use Rattle.cr_grammar.specs.Expressions as ex
-use Rattle.cr_exact.specs.Reader.{State, Reader, Test, refuse, allow, place_at, passes, seen, tight_seen, either, never, expect, choose, only, by_look, wrap, part, pure, ◌>>=◌, ◌>>◌}
+use Rattle.cr_exact.specs.Reader.{Reader, Test, passes, seen, tight_seen, either, never, expect, choose, only, by_look, wrap, part, pure, ◌>>=◌, ◌>>◌}
 use Rattle.cr_exact.specs.Reader as reader
 use Rattle.cr_exact.specs.Lists.{optional, separators}
 use Rattle.cr_exact.specs.Lists as lists
-use Rattle.cr_exact.specs.Exact.{head, Effort, Exact, Any, Stops}
-use Rattle.cr_exact.proofs.Sequence.{head-place, exact_bind, exact_pure, exact_map, exact_goes, weaken}
-use Rattle.cr_exact.proofs.Tokens.{Passing as Passes, not_found, refusal_is, refusal_at, clash, Led, Branch, by_first, a_token, exact_word, exact_choose, exact_by}
-use Rattle.cr_exact.proofs.Loops.{Apart, apart_stops, either_right, exact_repeated}
-use Rattle.cr_exact.proofs.Nodes.{exact_silent, silent_wrap, exact_part}
+use Rattle.cr_exact.specs.Exact.{Effort, Exact, Any, Stops}
 use Rattle.cr_descent.specs.Goes as g
 use Rattle.cr_descent.specs.Bodies as bodies
 use Rattle.cr_descent.specs.Operand.{Operand, Name, Field, Passing, Whole, whole, linked, indexed}
 use Rattle.cr_descent.specs.Links as links
-use Rattle.cr_descent.proofs.Lists.{Not, never_stops, alone, no_seps, not_seen, word_passes, exact_separators, exact_passing, exact_optional_where, exact_tight, tight_heads, exact_only_tight}
+use Rattle.cr_exact.proofs.TokenTests.{Apart, either_right, Not, never_stops, not_seen, stops_less, Less, less_never, look_apart, less_tight_seen, not_either, less_either}
+use Rattle.cr_exact.proofs.Sequence.{exact_bind, exact_pure, exact_map, exact_goes, weaken}
+use Rattle.cr_exact.proofs.Tokens.{Passing as Passes, Led, Branch, by_first, a_token, exact_word, exact_choose, exact_by, exact_refuse, exact_allow}
+use Rattle.cr_exact.proofs.Forms.{made_out, spelled_listed, spelled_parenthesized, spelled_seps, spelled_word, spelled_maybe, spelled_nothing, Spelled, spelled_bind, all_read, made_in, spelled_stmts, joined, split}
+use Rattle.cr_exact.proofs.Heads.{led_real, led_first, Halts, led_word, led_at, first_tested, led, led_seen, LedBy, first_bind, repeated_stop, heads_halts, tight_front}
+use Rattle.cr_exact.proofs.Follows.{follows_ahead, follows_many, follows_bind, follows_maybe, follows_led, follows_nothing, Follows}
+use Rattle.cr_exact.proofs.Loops.{exact_repeated}
+use Rattle.cr_exact.proofs.Nodes.{exact_silent, silent_wrap, exact_part}
+use Rattle.cr_exact.proofs.Lists.{exact_separators, exact_passing, exact_only_tight, exact_maybe_word}
 use Rattle.cr_descent.proofs.Words.{exact_ident}
-use Rattle.cr_descent.proofs.Begins as begins
 use Rattle.cr_descent.proofs.Claims as claims
 use Rattle.cr_descent.proofs.Operands as operands
-use Rattle.cr_descent.proofs.Bodies.{exact_body, exact_then, exact_plain, exact_inside, exact_arguments, exact_maybe_block}
+use Rattle.cr_descent.proofs.Bodies.{exact_body, exact_then, exact_plain, exact_inside, exact_arguments, exact_maybe_block, or_halts, no_parenthesis, block_less, parenthesis_less}
 use Rattle.cr_descent.proofs.Primaries.{exact_primary}
-use Rattle.cr_descent.proofs.PostfixForms.{all_read, made_back, postfix_tree, tree_postfix, name_alone, alone_name, is_receive, field_receive, receive_field, passing_send, send_passing}
-
-abbrev no_statements : (Q : Wanted → Form Tree) (within : Within) → begins.Spelled (ex.body Q within)
-no_statements Q within = ([], [], ([], [], tt, refl, no_seps, ([], [], [], refl, inr (refl, refl), ([], [], tt, refl, no_seps, (refl, refl)))))
+use Rattle.cr_descent.proofs.PostfixForms.{postfix_tree, tree_postfix, name_alone, alone_name, is_receive, field_receive, receive_field, passing_send, send_passing}
+use Rattle.cr_descent.proofs.Classes.{plain_some}
 
 -- ---- each link behind its first token
 
@@ -92,25 +93,14 @@ module _ (Q : Wanted → Form Tree) (within : Within) (free : Bool) (x : Tree) w
   abbrev pub at_index : Form Operand
   at_index = f.◌>>=◌ (word l.OpenBracket) (λ at. f.◌>>◌ seps (indices_of at))
 
--- ---- how lists are split
-
-joined : (w a b c d : List Token) → w ≡ a ++ b → b ≡ c ++ d → w ≡ (a ++ c) ++ d
-joined w a b c d e e' = e ∙ ap (λ (t : List Token). a ++ t) e' ∙ sym (append_assoc a c d)
-
-split : (a b c d : List Token) → a ≡ c ++ d → a ++ b ≡ c ++ (d ++ b)
-split a b c d e = ap (λ (t : List Token). t ++ b) e ∙ append_assoc c d b
-
-tight_front : (first : TokenLook) (v b : List Token) → Led first v → is_tight (v ++ b) ≡ is_tight v
-tight_front first v b led = ap (λ (t : List Token). is_tight (t ++ b)) led.2 ∙ sym (ap is_tight led.2)
-
 -- ---- the links by their first tokens are the links
 
 module _ (Q : Wanted → Form Tree) (within : Within) (free : Bool) where
-  pub led_index : (x : Tree) → begins.LedBy l.OpenBracket (at_index Q within free x)
-  led_index x = begins.led l.OpenBracket (λ at. f.◌>>◌ seps (indices_of Q within free x at))
+  pub led_index : (x : Tree) → LedBy l.OpenBracket (at_index Q within free x)
+  led_index x = led l.OpenBracket (λ at. f.◌>>◌ seps (indices_of Q within free x at))
 
   led_indices : (v : List Token) (found : ℕ × List Tree) → ex.indices Q within free v found → Led l.OpenBracket v
-  led_indices v found (is, c) = begins.led_at l.OpenBracket v c.0 c.1 c.2 c.3 c.4
+  led_indices v found (is, c) = led_at l.OpenBracket v c.0 c.1 c.2 c.3 c.4
 
   dotted_out : (z : Operand) (w : List Token) (o : Operand) → f.◌>>◌ (word l.Dot) (behind_dot Q within free (whole z)) w o → operands.link Q within free z w o
   dotted_out z w o (a, b, at, e, r, inl c) = inl (a, b, at, e, r, c)
@@ -125,7 +115,7 @@ module _ (Q : Wanted → Form Tree) (within : Within) (free : Bool) where
   index_out x w o is (a, b, at, e, r, (a1, b1, u1, e1, s1, (a2, b2, arguments, e2, i, (a3, b3, u3, e3, s3, (a4, b4, at4, e4, r4, q))))) =
       let v1 = a1 ++ (a2 ++ (a3 ++ a4)) in
       let parts : w ≡ (a ++ v1) ++ b4 = joined w a b v1 b4 e (joined b a1 b1 (a2 ++ (a3 ++ a4)) b4 e1 (joined b1 a2 b2 (a3 ++ a4) b4 e2 (joined b2 a3 b3 a4 b4 e3 e4))) in
-      let tight : is_tight (a ++ v1) ≡ true = sym (tight_front l.OpenBracket (a ++ v1) b4 (begins.led_at l.OpenBracket (a ++ v1) a v1 at refl r)) ∙ ap is_tight (sym parts) ∙ is in (
+      let tight : is_tight (a ++ v1) ≡ true = sym (tight_front l.OpenBracket (a ++ v1) b4 (led_at l.OpenBracket (a ++ v1) a v1 at refl r)) ∙ ap is_tight (sym parts) ∙ is in (
         a ++ v1,
         b4,
         (at, arguments),
@@ -136,7 +126,7 @@ module _ (Q : Wanted → Form Tree) (within : Within) (free : Bool) where
 
   index_back : (x : Tree) (w : List Token) (o : Operand) → operands.at_index Q within free x w o → (is_tight w ≡ true) × at_index Q within free x w o
   index_back x w o (v, b, found, e, (is, (a, a', at, e0, r, (a1, b1, u1, e1, s1, (a2, b2, arguments, e2, i, (a3, b3, u3, e3, s3, (a4, b4, at4, e4, r4, (none, same))))))), (a5, b5, question, e5, q, (none5, same5))) = (
-    ap is_tight e ∙ tight_front l.OpenBracket v b (begins.led_at l.OpenBracket v a a' at e0 r) ∙ is,
+    ap is_tight e ∙ tight_front l.OpenBracket v b (led_at l.OpenBracket v a a' at e0 r) ∙ is,
     (
       a,
       a' ++ b,
@@ -180,41 +170,16 @@ module _ (Q : Wanted → Form Tree) (within : Within) (free : Bool) where
   link_back z w o (inl (a, b, at, e, r, c)) = inl (a, b, at, e, r, (l.Ident, (c.4.0, c.1, c.3 ∙ ap (λ (t : List Token). t ++ c.1) c.4.1, ap look_of c.4.2.0), c))
   link_back z w o (inr (inl c)) = inr (index_back (whole z) w o c)
   link_back z w o (inr (inr (inl c))) =
-      let (t, (a, b', at, e, r, (a', b2, at', e', r', (a3, b3, of, e3, m, (none, same)))), is) = alone _ (λ y. Whole y) w o c in
-      inl (a, b', at, e, r, (l.IsA, begins.led_at l.IsA b' a' b2 at' e' r', (a', b2, at', e', r', (a3, b3, of, e3, m, (none, is ∙ ap (λ y. Whole y) same)))))
+      let (t, (a, b', at, e, r, (a', b2, at', e', r', (a3, b3, of, e3, m, (none, same)))), is) = made_out _ (λ y. Whole y) w o c in
+      inl (a, b', at, e, r, (l.IsA, led_at l.IsA b' a' b2 at' e' r', (a', b2, at', e', r', (a3, b3, of, e3, m, (none, is ∙ ap (λ y. Whole y) same)))))
   link_back z w o (inr (inr (inr (inl c)))) =
-      let (t, (a, b', at, e, r, (a', b2, at', e', r', (none, same))), is) = alone _ (λ y. Whole y) w o c in
-      inl (a, b', at, e, r, (l.IsNil, begins.led_at l.IsNil b' a' b2 at' e' r', (a', b2, at', e', r', (none, is ∙ ap (λ y. Whole y) same))))
+      let (t, (a, b', at, e, r, (a', b2, at', e', r', (none, same))), is) = made_out _ (λ y. Whole y) w o c in
+      inl (a, b', at, e, r, (l.IsNil, led_at l.IsNil b' a' b2 at' e' r', (a', b2, at', e', r', (none, is ∙ ap (λ y. Whole y) same))))
   link_back z w o (inr (inr (inr (inr c)))) =
-      let (t, (a, b', at, e, r, (a', b2, at', e', r', (a3, b3, body, e3, m, (none, same)))), is) = alone _ (λ y. Whole y) w o c in
-      inl (a, b', at, e, r, (l.Spawn, begins.led_at l.Spawn b' a' b2 at' e' r', (a', b2, at', e', r', (a3, b3, body, e3, m, (none, is ∙ ap (λ y. Whole y) same)))))
+      let (t, (a, b', at, e, r, (a', b2, at', e', r', (a3, b3, body, e3, m, (none, same)))), is) = made_out _ (λ y. Whole y) w o c in
+      inl (a, b', at, e, r, (l.Spawn, led_at l.Spawn b' a' b2 at' e' r', (a', b2, at', e', r', (a3, b3, body, e3, m, (none, is ∙ ap (λ y. Whole y) same)))))
 
 -- ---- the clauses of `select`, by the operand that is read
-
--- what refuses at once is exact for a form, of which nothing need be found
-exact_refuse : (effort : Effort) {A : Type 0} (R : Form A) (goes : Test) (w : List Token) (x : A) → R w x → Exact effort Any R (λ v y. ⊥) goes refuse
-exact_refuse effort {A = A} R goes w x some = record {
-  found = λ s y s' pre e. absurd (not_found s y s' e);
-  refused = λ s n s' pre e.
-      let is = refusal_is {A = A} s s' n e in
-      let rests : s.rest ≡ s'.rest = ap (λ (m : State). m.rest) is.1 in
-      record {
-        front = [];
-        parts = rests;
-        place = sym is.0 ∙ ap place_at rests;
-        more = w;
-        value = x;
-        begins = some;
-        again = λ rest same. refusal_at {A = A} s s' n rest (head-place rest s.rest (same ∙ ap head (sym rests)) ∙ is.0) is.1;
-      };
-  complete = λ v y s rest pre c. absurd c;
-}
-
--- exact where a condition holds that has nothing to do with the tokens, and else it refuses
-exact_allow : (effort : Effort) {A : Type 0} (condition : Bool) (R C : Form A) (goes : Test) (p : Reader A) (w : List Token) (x : A) → R w x
-    → (condition ≡ true → Exact effort Any R C goes p) → Exact effort Any R (where_true condition C) goes (allow condition p)
-exact_allow effort true R C goes p w x some ep = exact_map R (where_true true C) (λ v y c. c) (λ v y c. c.1) (ep refl)
-exact_allow effort false R C goes p w x some ep = exact_map R (where_true false C) (λ v y c. c) (λ v y c. clash refl c.0) (exact_refuse effort R goes w x some)
 
 module _ (Q : Wanted → Form Tree) (within : Within) (free : Bool) where
   -- then stmts, behind the operation of a clause
@@ -242,7 +207,7 @@ module _ (Q : Wanted → Form Tree) (within : Within) (free : Bool) where
   clause_by operation = received_by None operation
 
   -- `.receive` and a new line may follow any operand
-  receive_follows : (target : Option Tree) (x : Operand) → begins.Spelled (Behind (receiving target) x)
+  receive_follows : (target : Option Tree) (x : Operand) → Spelled (Behind (receiving target) x)
   receive_follows target x =
       let dot = a_token k.Dot in
       let receive = a_token (k.Ident names.receive_name) in
@@ -264,7 +229,7 @@ module _ (Q : Wanted → Form Tree) (within : Within) (free : Bool) where
             postfix_tree Q within free v x c,
             (dot ∷ [], receive ∷ [], 0, refl, (dot, refl, (refl, refl)), (receive ∷ [], [], name, refl, (receive, refl, (refl, refl)), (inl refl, (refl, refl)))),
           ),
-          (line ∷ [], [], 0, refl, inl (line, refl, (refl, refl)), ([], [], [], refl, (no_statements Q within).2, (refl, refl))),
+          (line ∷ [], [], 0, refl, inl (line, refl, (refl, refl)), ([], [], [], refl, (spelled_stmts (Q (Stmt within))).2, (refl, refl))),
         ),
       )
 
@@ -321,19 +286,19 @@ module _ (Q : Wanted → Form Tree) (within : Within) (free : Bool) where
   clause_back w y (inr (a, c, at, e, r, d)) = (a, c, at, e, r, behind_when c y (inr d))
 
   -- neither `then` nor `=` goes on an operand
-  body_ahead : (g : Test) → Not l.Newline g → Not l.Then g → (target : Option Tree) (operation : Tree) → begins.Ahead g (clause_body target operation)
-  body_ahead g line word_ target operation = begins.ahead_bind g (ex.then Q) _ then_ahead where
-    then_ahead : begins.Ahead g (ex.then Q)
-    then_ahead w at rest (inl c) = begins.led_stops l.Newline g line w rest (begins.led_word l.Newline w at c)
-    then_ahead w at rest (inr c) = begins.led_stops l.Then g word_ w rest (begins.led_word l.Then w at c)
+  body_ahead : (g : Test) → Not l.Newline g → Not l.Then g → (target : Option Tree) (operation : Tree) → Halts g (clause_body target operation)
+  body_ahead g line word_ target operation = first_bind false g (ex.then Q) _ then_ahead where
+    then_ahead : Halts g (ex.then Q)
+    then_ahead w at rest (inl c) = led_first false l.Newline g line w rest (led_word l.Newline w at c)
+    then_ahead w at rest (inr c) = led_first false l.Then g word_ w rest (led_word l.Then w at c)
 
-  pub received_ahead : (target : Option Tree) (x : Operand) → begins.Ahead (g.goes_operand free) (received_by target x)
+  pub received_ahead : (target : Option Tree) (x : Operand) → Halts (g.goes_operand free) (received_by target x)
   received_ahead target (Field channel name) w y rest c = body_ahead (g.goes_operand free) (λ spaced. refl) (λ spaced. refl) target (whole (Field channel name)) w y rest c.1
   received_ahead target other w y rest c = absurd c
 
-  pub clause_ahead : (x : Operand) → begins.Ahead (g.goes_operand free) (clause_by x)
+  pub clause_ahead : (x : Operand) → Halts (g.goes_operand free) (clause_by x)
   clause_ahead (Name name) w y rest c =
-      begins.led_stops l.Equal (g.goes_operand free) (λ spaced. refl) w rest (begins.led l.Equal (λ _. f.◌>>=◌ (operands.postfix Q within free) (received_by (Some (whole (Name name))))) w y c)
+      led_first false l.Equal (g.goes_operand free) (λ spaced. refl) w rest (led l.Equal (λ _. f.◌>>=◌ (operands.postfix Q within free) (received_by (Some (whole (Name name))))) w y c)
   clause_ahead (Passing name channel value) w y rest c = body_ahead (g.goes_operand free) (λ spaced. refl) (λ spaced. refl) None (whole (Passing name channel value)) w y rest c.1
   clause_ahead (Field channel name) w y rest c = received_ahead None (Field channel name) w y rest c
   clause_ahead other w y rest c = absurd c
@@ -346,26 +311,12 @@ module _ (effort : Effort) (rec : Wanted → Reader Tree) (S T : Wanted → Form
     abbrev goes : Test
     goes = g.goes_primary free
 
-    pub less_block : begins.Less (bodies.begins_block turns rec free) goes
-    less_block l.OpenBrace spaced e = absurd cc
-    less_block l.Do spaced e = e
-    less_block other spaced e = refl
-
-    pub less_arguments : begins.Less (tight_seen l.OpenParenthesis) goes
-    less_arguments = begins.less_tight_seen l.OpenParenthesis goes refl
-
     abbrev opens : Test
     opens = tight_seen l.OpenParenthesis
 
-    no_parenthesis : (look : TokenLook) → (look ≡ l.OpenParenthesis → ⊥) → Not look opens
-    no_parenthesis look other = begins.not_tight_seen look l.OpenParenthesis (not_seen look l.OpenParenthesis other true)
-
     -- no parenthesis begins a block
-    pub block_follows : begins.Follows opens (maybe (ex.block T within free)) opens
-    block_follows = begins.follows_maybe opens opens (ex.block T within free) (λ look spaced e. e)
-        (begins.follows_or opens opens (ex.braces T within) (where_true free (ex.doblock T within))
-        (begins.follows_led l.OpenBrace opens opens (ex.braces T within) (no_parenthesis l.OpenBrace (λ e. cc)) (begins.led l.OpenBrace _))
-        (begins.follows_where opens opens free (ex.doblock T within) (begins.follows_led l.Do opens opens (ex.doblock T within) (no_parenthesis l.Do (λ e. cc)) (begins.led l.Do _))))
+    pub block_follows : Follows opens (maybe (ex.block T within free)) opens
+    block_follows = follows_maybe opens opens (ex.block T within free) (λ look spaced e. e) (follows_ahead opens opens (ex.block T within free) (no_parenthesis free _ _))
 
     module _ (x : Tree) where
       exact_with_block : (name : Word) (arguments : Option (List Tree)) → Exact effort Any (with_block S within free x name arguments) (with_block T within free x name arguments) goes
@@ -374,8 +325,8 @@ module _ (effort : Effort) (rec : Wanted → Reader Tree) (S T : Wanted → Form
           exact_bind (λ block. nothing (linked x name arguments block)) (λ block. nothing (linked x name arguments block)) goes (λ block. pure (linked x name arguments block))
           (exact_maybe_block effort rec S T given within free)
           (λ block. exact_pure effort (linked x name arguments block) goes)
-          (λ block. begins.spelled_nothing (linked x name arguments block))
-          (λ block. begins.follows_nothing (bodies.begins_block turns rec free) goes (linked x name arguments block) less_block)
+          (λ block. spelled_nothing (linked x name arguments block))
+          (λ block. follows_nothing (bodies.begins_block turns rec free) goes (linked x name arguments block) (block_less turns rec free))
 
       exact_called : Exact effort Any (called S within free x) (called T within free x) goes (links.called turns rec within free x)
       exact_called =
@@ -388,8 +339,8 @@ module _ (effort : Effort) (rec : Wanted → Reader Tree) (S T : Wanted → Form
           (exact_arguments effort rec S T given within free)
           (exact_with_block name)
           (λ arguments. ([], linked x name arguments None, ([], [], None, refl, refl, (refl, refl))))
-          (λ arguments. begins.follows_bind opens goes (maybe (ex.block T within free)) (λ block. nothing (linked x name arguments block)) block_follows
-          (λ block. begins.follows_nothing opens goes (linked x name arguments block) less_arguments))))
+          (λ arguments. follows_bind opens goes (maybe (ex.block T within free)) (λ block. nothing (linked x name arguments block)) block_follows
+          (λ block. follows_nothing opens goes (linked x name arguments block) (parenthesis_less free)))))
           (λ name. ([], Field x name, ([], [], None, refl, refl, ([], [], None, refl, refl, (refl, refl)))))
           (λ name b' y rest d stop. never_stops (b' ++ rest))
 
@@ -402,25 +353,25 @@ module _ (effort : Effort) (rec : Wanted → Reader Tree) (S T : Wanted → Form
           (exact_bind (λ of. nothing (Whole (tree.IsA at x of))) (λ of. nothing (Whole (tree.IsA at x of))) goes (λ of. pure (Whole (tree.IsA at x of)))
           (exact_only_tight effort (S (Written false)) (T (Written false)) g.goes_type (part (rec (Written false)))
           (exact_part (rec (Written false)) (given.exact (Written false)))
-          (begins.ahead_first begins_type (seen l.Newline) (T (Written false)) (begins.apart_seen begins_type l.Newline refl) (given.type_begins false))
+          (first_tested false begins_type (seen l.Newline) (T (Written false)) (look_apart begins_type l.Newline refl) (given.type_begins false))
           some.0 some.1 some.2 (λ spaced. refl) (λ spaced. refl))
           (λ of. exact_pure effort (Whole (tree.IsA at x of)) goes)
-          (λ of. begins.spelled_nothing (Whole (tree.IsA at x of)))
+          (λ of. spelled_nothing (Whole (tree.IsA at x of)))
           (λ of b' y rest d stop. never_stops (b' ++ rest))))
-          (λ at. begins.spelled_bind spelled_type (λ of. begins.spelled_nothing (Whole (tree.IsA at x of))))
+          (λ at. spelled_bind spelled_type (λ of. spelled_nothing (Whole (tree.IsA at x of))))
           (λ at b' y rest d stop. never_stops (b' ++ rest)) where
-            some : begins.Spelled (S (Written false))
+            some : Spelled (S (Written false))
             some = given.some (Written false)
 
-            spelled_type : begins.Spelled (tight (parenthesized (S (Written false))))
-            spelled_type = let r = begins.spelled_parenthesized some in (r.0, r.1, (refl, r.2))
+            spelled_type : Spelled (tight (parenthesized (S (Written false))))
+            spelled_type = let r = spelled_parenthesized some in (r.0, r.1, (refl, r.2))
 
       exact_asked_nil : Exact effort Any (asked_nil S within free x) (asked_nil T within free x) goes (links.asked_nil turns rec within free x)
       exact_asked_nil =
           exact_bind (λ at. nothing (Whole (tree.IsNil at x))) (λ at. nothing (Whole (tree.IsNil at x))) goes (λ at. wrap at >> pure (Whole (tree.IsNil at x)))
           (exact_word effort k.IsNil never)
           (λ at. exact_silent (wrap at) (silent_wrap at) _ (exact_pure effort (Whole (tree.IsNil at x)) goes))
-          (λ at. begins.spelled_nothing (Whole (tree.IsNil at x)))
+          (λ at. spelled_nothing (Whole (tree.IsNil at x)))
           (λ at b' y rest d stop. never_stops (b' ++ rest))
 
       exact_spawned_in : Exact effort Any (spawned_in S within free x) (spawned_in T within free x) goes (links.spawned_in turns rec within free x)
@@ -432,23 +383,13 @@ module _ (effort : Effort) (rec : Wanted → Reader Tree) (S T : Wanted → Form
           (exact_bind (λ body. nothing (Whole (tree.Spawn at (Some x) body))) (λ body. nothing (Whole (tree.Spawn at (Some x) body))) goes (λ body. pure (Whole (tree.Spawn at (Some x) body)))
           (exact_plain effort rec S T given within free)
           (λ body. exact_pure effort (Whole (tree.Spawn at (Some x) body)) goes)
-          (λ body. begins.spelled_nothing (Whole (tree.Spawn at (Some x) body)))
+          (λ body. spelled_nothing (Whole (tree.Spawn at (Some x) body)))
           (λ body b' y rest d stop. never_stops (b' ++ rest))))
-          (λ at. begins.spelled_bind spelled_plain (λ body. begins.spelled_nothing (Whole (tree.Spawn at (Some x) body))))
-          (λ at b' y rest d stop. never_stops (b' ++ rest)) where
-            spelled_plain : begins.Spelled (ex.plain S within free)
-            spelled_plain =
-                let r = begins.spelled_bind (begins.spelled_word k.OpenBrace) (λ _. begins.spelled_bind (no_statements S (in_block within)) (λ body.
-                begins.spelled_bind (begins.spelled_word k.CloseBrace) (λ _. begins.spelled_nothing body))) in
-                (r.0, r.1, inl r.2)
+          (λ at. spelled_bind (plain_some effort rec S T given within free) (λ body. spelled_nothing (Whole (tree.Spawn at (Some x) body))))
+          (λ at b' y rest d stop. never_stops (b' ++ rest))
 
       abbrev asks : Test
       asks = tight_seen l.Question
-
-      exact_question : Exact effort Any (maybe (tight (word l.Question))) (maybe (tight (word l.Question))) (either asks never) (optional asks (expect l.Question))
-      exact_question = exact_optional_where effort (tight (word l.Question)) (tight (word l.Question)) never (expect l.Question) asks
-          (exact_tight l.Question (word_passes l.Question) (word_passes l.Question) (a_token k.Question ∷ []) 0 (a_token k.Question, refl, (refl, refl)) refl (exact_word effort k.Question never))
-          (tight_heads l.Question (word l.Question) (word_passes l.Question))
 
       exact_closed : (at : ℕ) (arguments : List Tree) → Exact effort Any (closed S within free x at arguments) (closed T within free x at arguments) goes
           (expect l.CloseBracket >> (optional asks (expect l.Question) >>= λ question. pure (indexed at x arguments question)))
@@ -457,17 +398,17 @@ module _ (effort : Effort) (rec : Wanted → Reader Tree) (S T : Wanted → Form
           (λ _. optional asks (expect l.Question) >>= λ question. pure (indexed at x arguments question))
           (exact_word effort k.CloseBracket never)
           (λ _. exact_bind (λ question. nothing (indexed at x arguments question)) (λ question. nothing (indexed at x arguments question)) goes (λ question. pure (indexed at x arguments question))
-          exact_question
+          (exact_maybe_word effort k.Question)
           (λ question. exact_pure effort (indexed at x arguments question) goes)
-          (λ question. begins.spelled_nothing (indexed at x arguments question))
-          (λ question. begins.follows_nothing (either asks never) goes (indexed at x arguments question)
-          (begins.less_either asks never goes (begins.less_tight_seen l.Question goes refl) (begins.less_never goes))))
-          (λ _. begins.spelled_bind (begins.spelled_maybe (tight (word l.Question))) (λ question. begins.spelled_nothing (indexed at x arguments question)))
+          (λ question. spelled_nothing (indexed at x arguments question))
+          (λ question. follows_nothing (either asks never) goes (indexed at x arguments question)
+          (less_either asks never goes (less_tight_seen l.Question goes refl) (less_never goes))))
+          (λ _. spelled_bind (spelled_maybe (tight (word l.Question))) (λ question. spelled_nothing (indexed at x arguments question)))
           (λ _ b' y rest d stop. never_stops (b' ++ rest))
 
-      spelled_closed : (at : ℕ) (arguments : List Tree) → begins.Spelled (closed S within free x at arguments)
-      spelled_closed at arguments = begins.spelled_bind (begins.spelled_word k.CloseBracket) (λ _.
-          begins.spelled_bind (begins.spelled_maybe (tight (word l.Question))) (λ question. begins.spelled_nothing (indexed at x arguments question)))
+      spelled_closed : (at : ℕ) (arguments : List Tree) → Spelled (closed S within free x at arguments)
+      spelled_closed at arguments = spelled_bind (spelled_word k.CloseBracket) (λ _.
+          spelled_bind (spelled_maybe (tight (word l.Question))) (λ question. spelled_nothing (indexed at x arguments question)))
 
       exact_separated : (at : ℕ) (arguments : List Tree) → Exact effort Any (f.◌>>◌ seps (closed S within free x at arguments)) (f.◌>>◌ seps (closed T within free x at arguments)) goes
           (separators turns >> (expect l.CloseBracket >> (optional asks (expect l.Question) >>= λ question. pure (indexed at x arguments question))))
@@ -477,24 +418,24 @@ module _ (effort : Effort) (rec : Wanted → Reader Tree) (S T : Wanted → Form
           (exact_separators effort)
           (λ _. exact_closed at arguments)
           (λ _. spelled_closed at arguments)
-          (λ _. begins.follows_led l.CloseBracket (seen l.Newline) goes (closed T within free x at arguments) (not_seen l.CloseBracket l.Newline (λ e. cc)) (begins.led l.CloseBracket _))
+          (λ _. follows_led l.CloseBracket (seen l.Newline) goes (closed T within free x at arguments) (not_seen l.CloseBracket l.Newline (λ e. cc)) (led l.CloseBracket _))
 
       -- what goes on behind the arguments is neither a separator nor what closes them
       abbrev goes_inside : Test
       goes_inside = either (seen l.Comma) (g.goes_or true)
 
-      pub separated_follows : (at : ℕ) (arguments : List Tree) → begins.Follows goes_inside (f.◌>>◌ seps (closed T within free x at arguments)) goes
+      pub separated_follows : (at : ℕ) (arguments : List Tree) → Follows goes_inside (f.◌>>◌ seps (closed T within free x at arguments)) goes
       separated_follows at arguments =
-          begins.follows_bind goes_inside goes seps (λ _. closed T within free x at arguments)
-          (begins.follows_bind goes_inside goes_inside (f.many (word l.Newline)) (λ _. nothing tt)
-          (begins.follows_many goes_inside (word l.Newline) (begins.follows_led l.Newline goes_inside goes_inside (word l.Newline) no_line (begins.led_word l.Newline)))
-          (λ _. begins.follows_nothing goes_inside goes_inside tt (λ v spaced e. e)))
-          (λ _. begins.follows_led l.CloseBracket goes_inside goes (closed T within free x at arguments) no_bracket (begins.led l.CloseBracket _)) where
+          follows_bind goes_inside goes seps (λ _. closed T within free x at arguments)
+          (follows_bind goes_inside goes_inside (f.many (word l.Newline)) (λ _. nothing tt)
+          (follows_many goes_inside (word l.Newline) (follows_led l.Newline goes_inside goes_inside (word l.Newline) no_line (led_word l.Newline)))
+          (λ _. follows_nothing goes_inside goes_inside tt (λ v spaced e. e)))
+          (λ _. follows_led l.CloseBracket goes_inside goes (closed T within free x at arguments) no_bracket (led l.CloseBracket _)) where
             no_line : Not l.Newline goes_inside
-            no_line = begins.not_either l.Newline (seen l.Comma) (g.goes_or true) (not_seen l.Newline l.Comma (λ e. cc)) (λ spaced. refl)
+            no_line = not_either l.Newline (seen l.Comma) (g.goes_or true) (not_seen l.Newline l.Comma (λ e. cc)) (λ spaced. refl)
 
             no_bracket : Not l.CloseBracket goes_inside
-            no_bracket = begins.not_either l.CloseBracket (seen l.Comma) (g.goes_or true) (not_seen l.CloseBracket l.Comma (λ e. cc)) (λ spaced. refl)
+            no_bracket = not_either l.CloseBracket (seen l.Comma) (g.goes_or true) (not_seen l.CloseBracket l.Comma (λ e. cc)) (λ spaced. refl)
 
       abbrev read_indices : ℕ → Reader Operand
       read_indices at = do
@@ -504,8 +445,8 @@ module _ (effort : Effort) (rec : Wanted → Reader Tree) (S T : Wanted → Form
         question ← optional asks (expect l.Question)
         pure (indexed at x arguments question)
 
-      spelled_inside : begins.Spelled (ex.inside S within free)
-      spelled_inside = begins.spelled_listed (given.some (Or within true))
+      spelled_inside : Spelled (ex.inside S within free)
+      spelled_inside = spelled_listed (given.some (Or within true))
 
       exact_indices_of : (at : ℕ) → Exact effort Any (indices_of S within free x at) (indices_of T within free x at) goes (read_indices at)
       exact_indices_of at =
@@ -513,7 +454,7 @@ module _ (effort : Effort) (rec : Wanted → Reader Tree) (S T : Wanted → Form
           (λ arguments. separators turns >> (expect l.CloseBracket >> (optional asks (expect l.Question) >>= λ question. pure (indexed at x arguments question))))
           (exact_inside effort rec S T given within free)
           (exact_separated at)
-          (λ arguments. begins.spelled_bind begins.spelled_seps (λ _. spelled_closed at arguments))
+          (λ arguments. spelled_bind spelled_seps (λ _. spelled_closed at arguments))
           (separated_follows at)
 
       exact_index : Exact effort Any (at_index S within free x) (at_index T within free x) goes (links.at_index turns rec within free x)
@@ -525,15 +466,12 @@ module _ (effort : Effort) (rec : Wanted → Reader Tree) (S T : Wanted → Form
           (exact_separators effort)
           (λ _. exact_indices_of at)
           (λ _. spelled_indices at)
-          (λ _. begins.follows_ahead (seen l.Newline) goes (indices_of T within free x at) (begins.ahead_bind (seen l.Newline) (ex.inside T within free) _
-          (begins.ahead_bind (seen l.Newline) (T (Or within true)) _ value_ahead)))))
-          (λ at. begins.spelled_bind begins.spelled_seps (λ _. spelled_indices at))
+          (λ _. follows_ahead (seen l.Newline) goes (indices_of T within free x at) (first_bind false (seen l.Newline) (ex.inside T within free) _
+          (first_bind false (seen l.Newline) (T (Or within true)) _ (or_halts effort rec S T given within true l.Newline refl))))))
+          (λ at. spelled_bind spelled_seps (λ _. spelled_indices at))
           (λ at b' y rest d stop. never_stops (b' ++ rest)) where
-            spelled_indices : (at : ℕ) → begins.Spelled (indices_of S within free x at)
-            spelled_indices at = begins.spelled_bind spelled_inside (λ arguments. begins.spelled_bind begins.spelled_seps (λ _. spelled_closed at arguments))
-
-            value_ahead : begins.Ahead (seen l.Newline) (T (Or within true))
-            value_ahead = begins.ahead_first (begins_or within) (seen l.Newline) (T (Or within true)) (begins.apart_seen (begins_or within) l.Newline refl) (given.or_begins within true)
+            spelled_indices : (at : ℕ) → Spelled (indices_of S within free x at)
+            spelled_indices at = spelled_bind spelled_inside (λ arguments. spelled_bind spelled_seps (λ _. spelled_closed at arguments))
 
       -- ---- any link
 
@@ -550,7 +488,7 @@ module _ (effort : Effort) (rec : Wanted → Reader Tree) (S T : Wanted → Form
       abbrev dotted_by : Form Operand
       dotted_by = f.◌>>◌ (word l.Dot) (by_first (behind_by T within free x))
 
-      spelled_behind : begins.Spelled (behind_dot S within free x)
+      spelled_behind : Spelled (behind_dot S within free x)
       spelled_behind =
           let name : Word = record { at = 0; text = [] } in
           (a_token (k.Ident []) ∷ [], Field x name, inl (a_token (k.Ident []) ∷ [], [], name, refl, (a_token (k.Ident []), refl, (refl, refl)), ([], [], None, refl, refl, ([], [], None, refl, refl, (refl, refl)))))
@@ -568,8 +506,8 @@ module _ (effort : Effort) (rec : Wanted → Reader Tree) (S T : Wanted → Form
       exact_either = exact_choose effort (seen l.Dot) dotted dotted_by (at_index S within free x) (at_index T within free x) goes
           (expect l.Dot >> by_look (links.behind_dot turns rec within free x)) (links.at_index turns rec within free x)
           (weaken _ exact_dotted) (weaken _ exact_index)
-          (λ w o rest c. begins.led_seen l.Dot w rest (begins.led l.Dot (λ _. by_first (behind_by T within free x)) w o c))
-          (λ w o rest c stop. begins.led_stops l.OpenBracket (seen l.Dot) (not_seen l.OpenBracket l.Dot (λ e. cc)) w rest (led_index T within free x w o c))
+          (λ w o rest c. led_seen l.Dot w rest (led l.Dot (λ _. by_first (behind_by T within free x)) w o c))
+          (λ w o rest c stop. led_first false l.OpenBracket (seen l.Dot) (not_seen l.OpenBracket l.Dot (λ e. cc)) w rest (led_index T within free x w o c))
 
     -- ---- a postfix
 
@@ -581,7 +519,7 @@ module _ (effort : Effort) (rec : Wanted → Reader Tree) (S T : Wanted → Form
 
     pub link_passes : (z : Operand) (w : List Token) (o : Operand) (rest : List Token) → operands.link T within free z w o → passes is_link (w ++ rest) ≡ true
     link_passes z w o rest c = elim (link_back T within free z w o c) [
-      | inl d ↦ begins.led_passes l.Dot is_link (λ spaced. refl) w rest (begins.led l.Dot (λ _. by_first (behind_by T within free (whole z))) w o d)
+      | inl d ↦ led_first true l.Dot is_link (λ spaced. refl) w rest (led l.Dot (λ _. by_first (behind_by T within free (whole z))) w o d)
       | inr d ↦
           let led = led_index T within free (whole z) w o d.1 in
           tight_link (w ++ rest) (led.0, led.1 ++ rest, ap (λ (t : List Token). t ++ rest) led.2, led.3) ∙ tight_front l.OpenBracket w rest led ∙ d.0
@@ -601,12 +539,12 @@ module _ (effort : Effort) (rec : Wanted → Reader Tree) (S T : Wanted → Form
     )
 
     either_real : (x : Tree) (w : List Token) (o : Operand) → (dotted x <|> at_index S within free x) w o → w ≡ [] → ⊥
-    either_real x w o (inl c) e = begins.led_real l.Dot w (begins.led l.Dot (λ _. behind_dot S within free x) w o c) e
-    either_real x w o (inr c) e = begins.led_real l.OpenBracket w (led_index S within free x w o c) e
+    either_real x w o (inl c) e = led_real l.Dot w (led l.Dot (λ _. behind_dot S within free x) w o c) e
+    either_real x w o (inr c) e = led_real l.OpenBracket w (led_index S within free x w o c) e
 
     pub exact_link : (z : Operand) → Exact effort (Passes is_link) (operands.link S within free z) (operands.link T within free z) goes (links.link turns rec within free z)
     exact_link z =
-        let some = begins.spelled_bind (begins.spelled_word k.Dot) (λ _. spelled_behind (whole z)) in
+        let some = spelled_bind (spelled_word k.Dot) (λ _. spelled_behind (whole z)) in
         exact_map (operands.link S within free z) (operands.link T within free z) (link_out z) (link_in z)
         (exact_passing (Passes is_link) is_link (λ ts is. is) (either_real (whole z)) some.0 some.1 (inl some.2) refl (exact_either (whole z)))
 
@@ -615,16 +553,15 @@ module _ (effort : Effort) (rec : Wanted → Reader Tree) (S T : Wanted → Form
     link_apart l.OpenBracket spaced is = refl
     link_apart other spaced is = absurd cc
 
-    pub less_postfix : begins.Less (either is_link goes) (g.goes_operand free)
+    pub less_postfix : Less (either is_link goes) (g.goes_operand free)
     less_postfix l.Dot spaced e = absurd cc
     less_postfix l.OpenBracket spaced e = rw e refl
     less_postfix other spaced e = e
 
     pub links_follow : (n : ℕ) (z : Operand) (w : List Token) (o : Operand) (rest : List Token) → repeated_of n (operands.link T within free) z w o → Stops (g.goes_operand free) rest → Stops goes (w ++ rest)
-    links_follow zero z w o rest c stop = rw c.0 (begins.stops_less goes (g.goes_operand free) (λ look spaced e. either_right _ _ (less_postfix look spaced e)) rest stop)
-    links_follow (suc n) z w o rest c stop =
-        let whole_ : w ++ rest ≡ c.0 ++ (c.1 ++ rest) = split w rest c.0 c.1 c.3 in
-        apart_stops is_link goes link_apart (w ++ rest) (ap (passes is_link) whole_ ∙ link_passes z c.0 c.2 (c.1 ++ rest) c.4)
+    links_follow n z w o rest c stop =
+        repeated_stop goes (operands.link T within free) (λ z. heads_halts is_link goes _ (link_passes z) link_apart) n z w o rest c
+        (stops_less goes (g.goes_operand free) (λ look spaced e. either_right _ _ (less_postfix look spaced e)) rest stop)
 
   pub exact_postfix : (within : Within) (free : Bool) → claims.Postfix effort rec S T within free
   exact_postfix within free =
@@ -640,12 +577,12 @@ module _ (effort : Effort) (rec : Wanted → Reader Tree) (S T : Wanted → Form
   pub exact_postfix_tree : (within : Within) (free : Bool) → claims.PostfixTree effort rec S T within free
   exact_postfix_tree within free =
       exact_map (ex.postfix S within free) (ex.postfix T within free)
-      (λ w x c. let r = alone (operands.postfix S within free) whole w x c in subst (ex.postfix S within free w) (sym r.2) (postfix_tree S within free w r.0 r.1))
+      (λ w x c. let r = made_out (operands.postfix S within free) whole w x c in subst (ex.postfix S within free w) (sym r.2) (postfix_tree S within free w r.0 r.1))
       (λ w x c. let r = tree_postfix T within free w x c in
-      subst (λ y. (f.◌>>=◌ (operands.postfix T within free) (λ o. nothing (whole o))) w y) r.2 (made_back (operands.postfix T within free) whole w r.0 r.1))
+      subst (λ y. (f.◌>>=◌ (operands.postfix T within free) (λ o. nothing (whole o))) w y) r.2 (made_in (operands.postfix T within free) whole w r.0 r.1))
       (exact_bind (λ o. nothing (whole o)) (λ o. nothing (whole o)) (g.goes_operand free) (λ o. pure (whole o))
-      (exact_postfix within free) (λ o. exact_pure effort (whole o) (g.goes_operand free)) (λ o. begins.spelled_nothing (whole o))
-      (λ o. begins.follows_nothing (g.goes_operand free) (g.goes_operand free) (whole o) (λ look spaced e. e)))
+      (exact_postfix within free) (λ o. exact_pure effort (whole o) (g.goes_operand free)) (λ o. spelled_nothing (whole o))
+      (λ o. follows_nothing (g.goes_operand free) (g.goes_operand free) (whole o) (λ look spaced e. e)))
 
   -- ---- a clause of `select`
 
@@ -668,9 +605,9 @@ module _ (effort : Effort) (rec : Wanted → Reader Tree) (S T : Wanted → Form
         (λ _. exact_bind (when_of target operation) (when_of target operation) g.goes_body (λ body. pure (tree.When target operation body))
         (exact_body effort rec S T given within)
         (λ body. exact_pure effort (tree.When target operation body) g.goes_body)
-        (λ body. begins.spelled_nothing (tree.When target operation body))
-        (λ body. begins.follows_nothing g.goes_body g.goes_body (tree.When target operation body) (λ look spaced e. e)))
-        (λ _. begins.spelled_bind (no_statements S within) (λ body. begins.spelled_nothing (tree.When target operation body)))
+        (λ body. spelled_nothing (tree.When target operation body))
+        (λ body. follows_nothing g.goes_body g.goes_body (tree.When target operation body) (λ look spaced e. e)))
+        (λ _. spelled_bind (spelled_stmts (S (Stmt within))) (λ body. spelled_nothing (tree.When target operation body)))
         (λ _ w y rest d stop. never_stops (w ++ rest))
 
     -- what was read is a receive, or no clause
@@ -704,10 +641,10 @@ module _ (effort : Effort) (rec : Wanted → Reader Tree) (S T : Wanted → Form
     received_clause : (x : Operand) (w : List Token) (y : Tree) → BehindS (receiving S within free None) x w y → Clause x w y
     received_clause x w y c v p = inl ([], v ++ w, None, refl, refl, c v p)
 
-    clause_follows : (x : Operand) → begins.Spelled (Clause x)
+    clause_follows : (x : Operand) → Spelled (Clause x)
     clause_follows x = let some = receive_follows S within free None x in (some.0, some.1, received_clause x some.0 some.1 some.2)
 
-    name_follows : (target : Tree) → begins.Spelled (f.◌>>=◌ (operands.postfix S within free) (BehindS (receiving S within free (Some target))))
+    name_follows : (target : Tree) → Spelled (f.◌>>=◌ (operands.postfix S within free) (BehindS (receiving S within free (Some target))))
     name_follows target =
         let name : Word = record { at = 0; text = [] } in
         let some = receive_follows S within free (Some target) (Name name) in
@@ -765,7 +702,7 @@ module _ (effort : Effort) (rec : Wanted → Reader Tree) (S T : Wanted → Form
       (λ _. exact_behind_when within free)
       (λ _. some)
       (λ _ w y rest d stop. never_stops (w ++ rest))) where
-        some : begins.Spelled (f.◌>>=◌ (operands.postfix S within free) (Clause within free))
+        some : Spelled (f.◌>>=◌ (operands.postfix S within free) (Clause within free))
         some =
             let name : Word = record { at = 0; text = [] } in
             let rest = clause_follows within free (Name name) in

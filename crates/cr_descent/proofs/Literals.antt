@@ -1,151 +1,45 @@
 -- Numbers, texts, arrays and hashes are read exactly.
-use Rattle.std.proofs.Common.{◌≡◌, ℕ, Bool, true, false, cond, List, [], ◌∷◌, ◌++◌, map, inl, inr, refl, sym, ap, subst, ◌∙◌, append_assoc}
+use Rattle.std.proofs.Common.{◌≡◌, ℕ, Bool, true, false, List, [], ◌∷◌, ◌++◌, map, inl, inr, refl, sym, ap, subst, ◌∙◌}
 use Rattle.std.specs.Prelude.{Option}
 use Rattle.std.proofs.lemmas.List.{append-nil}
-use Rattle.cr_syntax.specs.declared.look.TokenLook.{TokenLook}
 use Rattle.cr_syntax.specs.declared.look.TokenLook.TheVariants as l
 use Rattle.cr_syntax.specs.declared.token.Token.{Token}
-use Rattle.cr_syntax.specs.declared.token.TokenKind.{TokenKind}
 use Rattle.cr_syntax.specs.declared.token.TokenKind.TheVariants as k
-use Rattle.cr_syntax.specs.Look.{look_of}
 use Rattle.cr_grammar.specs.declared.tree.Tree.{Tree}
 use Rattle.cr_grammar.specs.declared.tree.Tree.TheVariants as tree
 use Rattle.cr_grammar.specs.declared.within.Within.{Within}
 use Rattle.cr_grammar.specs.Forms.{Form, Word}
 use Rattle.cr_grammar.specs.Forms as f
 use Rattle.cr_grammar.specs.Wanted.{Wanted, Written, Or}
-use Rattle.cr_grammar.specs.Laws.{begins_type, begins_or}
+use Rattle.cr_grammar.specs.Laws.{begins_type}
 use Rattle.cr_grammar.specs.Expressions as ex
-use Rattle.cr_exact.specs.Reader.{State, Outcome, Found, Failed, Reader, Test, and_then, passes, seen, same_look, either, never, expect, holder, choose, many, pure, grow, part, ◌>>=◌, ◌>>◌}
+use Rattle.cr_exact.specs.Reader.{Reader, Test, seen, same_look, either, never, expect, holder, many, pure, grow, part, ◌>>=◌, ◌>>◌}
 use Rattle.cr_exact.specs.Lists.{optional, unless_closed, separators, listed}
 use Rattle.cr_exact.specs.Exact.{Effort, Exact, Any}
-use Rattle.cr_exact.proofs.Sequence.{exact_bind, exact_pure, exact_map, weaken}
-use Rattle.cr_exact.proofs.Tokens.{exact_word, exact_choose}
-use Rattle.cr_exact.proofs.Loops.{exact_many}
-use Rattle.cr_exact.proofs.Nodes.{exact_silent, silent_grow, exact_part}
 use Rattle.cr_descent.specs.Goes.{goes_type, goes_or, goes_primary}
 use Rattle.cr_descent.specs.Words.{last_text}
 use Rattle.cr_descent.specs.Bodies as bodies
 use Rattle.cr_descent.specs.Primaries as primaries
-use Rattle.cr_descent.proofs.Lists.{NoLine, Not, exact_same, exact_separators, exact_optional, exact_listed, exact_or_none, seen_apart}
+use Rattle.cr_exact.proofs.TokenTests.{Not, seen_apart, less_seen, Less, look_apart, less_either}
+use Rattle.cr_exact.proofs.Sequence.{exact_bind, exact_pure, exact_map, weaken}
+use Rattle.cr_exact.proofs.Tokens.{exact_word}
+use Rattle.cr_exact.proofs.Forms.{bind_out, bind_in, spelled_held, spelled_seps, spelled_word, spelled_maybe, spelled_many, spelled_none, spelled_nothing, Spelled, spelled_bind}
+use Rattle.cr_exact.proofs.Heads.{NoLine, Halts, led_at, first_tested, led, led_seen, led_bind, LedBy, led_held, led_first, first_bind}
+use Rattle.cr_exact.proofs.Follows.{follows_ahead, follows_many, follows_bind, follows_led, follows_nothing, follows_never, Follows}
+use Rattle.cr_exact.proofs.Loops.{exact_many}
+use Rattle.cr_exact.proofs.Nodes.{exact_silent, silent_grow, exact_part}
+use Rattle.cr_exact.proofs.Lists.{exact_separators, exact_optional, exact_listed}
+use Rattle.cr_exact.proofs.Closed.{closed_then, read_then, exact_closed_then, exact_or_closed, empty_or, empty_or_in, exact_or_none}
 use Rattle.cr_descent.proofs.Words as words
-use Rattle.cr_descent.proofs.Begins as b
 use Rattle.cr_descent.proofs.Claims as claims
-use Rattle.cr_descent.proofs.Bodies.{exact_inside}
+use Rattle.cr_descent.proofs.Bodies.{exact_inside, or_halts}
 
--- ---- one after the other, and that after this
-
-module _ {A B D : Type 0} where
-  pub assoc_out : (R : Form A) (Q : A → Form B) (K : B → Form D) (w : List Token) (y : D)
-      → f.◌>>=◌ (f.◌>>=◌ R Q) K w y → f.◌>>=◌ R (λ x. f.◌>>=◌ (Q x) K) w y
-  assoc_out R Q K w y (whole, rest, z, e, (a, c, x, u, r, q), d) =
-      (a, c ++ rest, x, e ∙ ap (λ (t : List Token). t ++ rest) u ∙ append_assoc a c rest, r, (c, rest, z, refl, q, d))
-
-  pub assoc_back : (R : Form A) (Q : A → Form B) (K : B → Form D) (w : List Token) (y : D)
-      → f.◌>>=◌ R (λ x. f.◌>>=◌ (Q x) K) w y → f.◌>>=◌ (f.◌>>=◌ R Q) K w y
-  assoc_back R Q K w y (a, rest, x, e, r, (c, last, z, u, q, d)) =
-      (a ++ c, last, z, e ∙ ap (λ (t : List Token). a ++ t) u ∙ sym (append_assoc a c last), (a, c, x, refl, r, q), d)
-
-  assoc_read : (o : Outcome A) (p : A → Reader B) (q : B → Reader D) → and_then (and_then o p) q ≡ and_then o (λ x s. and_then (p x s) q)
-  assoc_read (Found x s) p q = refl
-  assoc_read (Failed e s) p q = refl
-
-same_behind : {A B : Type 0} (o : Outcome A) (p q : A → Reader B) → ((x : A) (s : State) → p x s ≡ q x s) → and_then o p ≡ and_then o q
-same_behind o p q same = λ i. and_then o (λ x s. same x s i)
-
-unit_out : {A B : Type 0} (K : A → Form B) (x : A) (w : List Token) (y : B) → f.◌>>=◌ (f.nothing x) K w y → K x w y
-unit_out K x w y (a, rest, z, e, (none, is), d) =
-    subst (λ (t : List Token). K x t y) (sym (e ∙ ap (λ (t : List Token). t ++ rest) none)) (subst (λ v. K v rest y) is d)
-
--- ---- what stands between an opening and a closing token, and what follows
-
-module _ {A B : Type 0} (Q : Form (List A)) (E : Form ℕ) (K : List A → Form B) where
-  abbrev end_of : List A → Form (List A)
-  end_of xs = f.◌>>=◌ E (λ _. f.nothing xs)
-
-  abbrev close_of : List A → Form (List A)
-  close_of xs = f.◌>>=◌ f.seps (λ _. end_of xs)
-
-  abbrev list_of : Form (List A)
-  list_of = f.◌>>=◌ Q close_of
-
-  abbrev closed_by : Form (List A)
-  closed_by = f.◌>>=◌ f.seps (λ _. list_of)
-
-  abbrev closed_then : Form B
-  closed_then = f.◌>>=◌ f.seps (λ _. f.◌>>=◌ Q (λ xs. f.◌>>=◌ f.seps (λ _. f.◌>>=◌ E (λ _. K xs))))
-
-  closed_out : (w : List Token) (y : B) → f.◌>>=◌ closed_by K w y → closed_then w y
-  closed_out w y c =
-      let u = assoc_out f.seps (λ _. list_of) K w y c in
-      let v = assoc_out Q close_of K u.1 y u.5 in
-      let m = assoc_out f.seps (λ _. end_of v.2) K v.1 y v.5 in
-      let n = assoc_out E (λ _. f.nothing v.2) K m.1 y m.5 in
-      (u.0, u.1, u.2, u.3, u.4, (v.0, v.1, v.2, v.3, v.4, (m.0, m.1, m.2, m.3, m.4, (n.0, n.1, n.2, n.3, n.4, unit_out K v.2 n.1 y n.5))))
-
-  closed_back : (w : List Token) (y : B) → closed_then w y → f.◌>>=◌ closed_by K w y
-  closed_back w y (a, c, u, e, d, (a1, c1, xs, e1, d1, (a2, c2, u2, e2, d2, (a3, c3, at, e3, d3, rest)))) =
-      let n : f.◌>>=◌ (end_of xs) K c2 y = assoc_back E (λ _. f.nothing xs) K c2 y (a3, c3, at, e3, d3, ([], c3, xs, refl, (refl, refl), rest)) in
-      let m : f.◌>>=◌ (close_of xs) K c1 y = assoc_back f.seps (λ _. end_of xs) K c1 y (a2, c2, u2, e2, d2, n) in
-      let v : f.◌>>=◌ list_of K c y = assoc_back Q close_of K c y (a1, c1, xs, e1, d1, m) in
-      assoc_back f.seps (λ _. list_of) K w y (a, c, u, e, d, v)
-
-module _ {A B : Type 0} (p : Reader (Unit {0})) (q : Reader (List A)) (e : Reader ℕ) (k : List A → Reader B) where
-  abbrev read_closed : Reader (List A)
-  read_closed = p >> (q >>= λ xs. p >> (e >> pure xs))
-
-  abbrev read_then : Reader B
-  read_then = p >> (q >>= λ xs. p >> (e >> k xs))
-
-  closed_read : (s : State) → and_then (read_closed s) k ≡ read_then s
-  closed_read s =
-      assoc_read (p s) (λ _. q >>= λ xs. p >> (e >> pure xs)) k
-      ∙ same_behind (p s) (λ _ m. and_then (and_then (q m) (λ xs. p >> (e >> pure xs))) k) (λ _. q >>= λ xs. p >> (e >> k xs)) (λ _ m.
-      assoc_read (q m) (λ xs. p >> (e >> pure xs)) k
-      ∙ same_behind (q m) (λ xs n. and_then (and_then (p n) (λ _. e >> pure xs)) k) (λ xs. p >> (e >> k xs)) (λ xs n.
-      assoc_read (p n) (λ _. e >> pure xs) k
-      ∙ same_behind (p n) (λ _ t. and_then (and_then (e t) (λ _. pure xs)) k) (λ _. e >> k xs) (λ _ t. assoc_read (e t) (λ _. pure xs) k)))
-
--- What is exact between the two, and behind them, is exact as a whole.
-exact_closed_then : {effort : Effort} {A B : Type 0} (Q P : Form (List A)) (E : Form ℕ) (K D : List A → Form B) (h : Test) (p : Reader (Unit {0})) (q : Reader (List A)) (e : Reader ℕ) (k : List A → Reader B)
-    → Exact effort Any (closed_by Q E K) (closed_by P E D) never (read_closed p q e k) → ((xs : List A) → Exact effort Any (K xs) (D xs) h (k xs)) → ((xs : List A) → b.Spelled (K xs))
-    → Exact effort Any (closed_then Q E K) (closed_then P E D) h (read_then p q e k)
-exact_closed_then Q P E K D h p q e k ep eq some =
-    exact_same (read_closed p q e k >>= k) (read_then p q e k) (closed_read p q e k)
-    (exact_map (closed_then Q E K) (closed_then P E D) (closed_out Q E K) (closed_back P E D)
-    (exact_bind K D h k ep eq some (λ xs. b.follows_never (D xs) h)))
-
--- ---- [ R ] before a closing token, and what follows
-
-choice_first : {A B : Type 0} (c : Bool) (p q : Reader A) (k : A → Reader B) (s : State) → cond c (p >>= k) (q >>= k) s ≡ and_then (cond c p q s) k
-choice_first true p q k s = refl
-choice_first false p q k s = refl
-
-module _ {A B : Type 0} (Q : Form (List A)) (N : List A → Form B) where
-  abbrev at_once : Form B
-  at_once = f.◌<|>◌ (N []) (f.◌>>=◌ Q N)
-
-  once_out : (w : List Token) (y : B) → at_once w y → f.◌>>=◌ (f.or_none Q) N w y
-  once_out w y (inl c) = ([], w, [], refl, inr (refl, refl), c)
-  once_out w y (inr c) = (c.0, c.1, c.2, c.3, inl c.4, c.5)
-
-  pub once_back : (w : List Token) (y : B) → f.◌>>=◌ (f.or_none Q) N w y → at_once w y
-  once_back w y (a, rest, xs, e, inl c, d) = inr (a, rest, xs, e, c, d)
-  once_back w y (a, rest, xs, e, inr c, d) = inl (unit_out N [] w y (a, rest, xs, e, c, d))
-
-exact_or_closed : {effort : Effort} {A B : Type 0} (kind : TokenKind) (R C : Form (List A)) (g : Test) (p : Reader (List A)) (K D : List A → Form B) (h : Test) (k : List A → Reader B)
-    → Exact effort Any R C g p → ((xs : List A) → Exact effort Any (K xs) (D xs) h (k xs)) → ((xs : List A) → b.Spelled (K xs))
-    → ((xs : List A) → b.LedBy (look_of kind) (D xs)) → Not (look_of kind) g → b.Ahead (seen (look_of kind)) C
-    → Exact effort Any (f.◌>>=◌ (f.or_none R) K) (f.◌>>=◌ (f.or_none C) D) h (unless_closed (look_of kind) p >>= k)
-exact_or_closed {effort = effort} kind R C g p K D h k ep eq some closes stops ahead =
-    exact_same (choose (seen (look_of kind)) (k []) (p >>= k)) (unless_closed (look_of kind) p >>= k)
-    (λ s. choice_first (passes (seen (look_of kind)) s.rest) (pure []) p k s)
-    (exact_map (f.◌>>=◌ (f.or_none R) K) (f.◌>>=◌ (f.or_none C) D) (once_out R K) (once_back C D)
-    (exact_choose effort (seen (look_of kind)) (K []) (D []) (f.◌>>=◌ R K) (f.◌>>=◌ C D) h (k []) (p >>= k)
-    (weaken _ (eq []))
-    (weaken _ (exact_bind K D h k ep eq some (λ xs. b.follows_led (look_of kind) g h (D xs) stops (closes xs))))
-    (λ w y rest d. b.led_seen (look_of kind) w rest (closes [] w y d))
-    (λ w y rest d stop. b.ahead_bind (seen (look_of kind)) C D ahead w y rest d)))
+-- What ends a primary ends a type.
+type_less : (free : Bool) → Less goes_type (goes_primary free)
+type_less free l.OpenBrace spaced e = refl
+type_less free l.Do spaced e = refl
+type_less free l.Of spaced e = refl
+type_less free other spaced e = e
 
 -- ---- literals
 
@@ -171,8 +65,8 @@ module _ (effort : Effort) (rec : Wanted → Reader Tree) (S T : Wanted → Form
       exact_map (ex.number S within free) (ex.number T within free) number_out number_back
       (exact_bind (λ found. f.nothing found.1) (λ found. f.nothing found.1) never _ (words.exact_number effort never)
       (λ found. exact_silent (grow found.0) (silent_grow found.0) (pure found.1) (exact_pure effort found.1 never))
-      (λ found. b.spelled_nothing found.1)
-      (λ found. b.follows_never (f.nothing found.1) never))
+      (λ found. spelled_nothing found.1)
+      (λ found. follows_never (f.nothing found.1) never))
 
   -- ---- texts
 
@@ -183,8 +77,8 @@ module _ (effort : Effort) (rec : Wanted → Reader Tree) (S T : Wanted → Form
   exact_text =
       exact_bind (λ (text : Word). f.nothing (tree.Text text.at text.text)) (λ (text : Word). f.nothing (tree.Text text.at text.text)) never _ (words.exact_whole_text effort never)
       (λ text. exact_silent (grow text.at) (silent_grow text.at) _ (exact_pure effort (tree.Text text.at text.text) never))
-      (λ text. b.spelled_nothing (tree.Text text.at text.text))
-      (λ text. b.follows_never (f.nothing (tree.Text text.at text.text)) never)
+      (λ text. spelled_nothing (tree.Text text.at text.text))
+      (λ text. follows_never (f.nothing (tree.Text text.at text.text)) never)
 
   pub exact_inserted : Exact effort Any (S (Or within free)) (T (Or within free)) (goes_or free) (primaries.inserted turns rec within free)
   exact_inserted = exact_part (rec (Or within free)) (given.exact (Or within free))
@@ -198,13 +92,13 @@ module _ (effort : Effort) (rec : Wanted → Reader Tree) (S T : Wanted → Form
       (goes_or free) _ (words.exact_middle_text effort never)
       (λ text. exact_bind (λ value. f.nothing (part_of text value)) (λ value. f.nothing (part_of text value)) (goes_or free) _ exact_inserted
       (λ value. exact_pure effort (part_of text value) (goes_or free))
-      (λ value. b.spelled_nothing (part_of text value))
-      (λ value. b.follows_nothing (goes_or free) (goes_or free) (part_of text value) (λ look spaced e. e)))
-      (λ text. b.spelled_bind (given.some (Or within free)) (λ value. b.spelled_nothing (part_of text value)))
-      (λ text. b.follows_never (f.◌>>=◌ (T (Or within free)) (λ value. f.nothing (part_of text value))) (goes_or free))
+      (λ value. spelled_nothing (part_of text value))
+      (λ value. follows_nothing (goes_or free) (goes_or free) (part_of text value) (λ look spaced e. e)))
+      (λ text. spelled_bind (given.some (Or within free)) (λ value. spelled_nothing (part_of text value)))
+      (λ text. follows_never (f.◌>>=◌ (T (Or within free)) (λ value. f.nothing (part_of text value))) (goes_or free))
 
-  pub led_middle : b.LedBy l.TextMiddle (ex.part_behind T within free)
-  led_middle = b.led_bind l.TextMiddle (f.holding (λ text. k.TextMiddle text)) _ (b.led_held (λ text. k.TextMiddle text) l.TextMiddle (λ text. refl))
+  pub led_middle : LedBy l.TextMiddle (ex.part_behind T within free)
+  led_middle = led_bind l.TextMiddle (f.holding (λ text. k.TextMiddle text)) _ (led_held (λ text. k.TextMiddle text) l.TextMiddle (λ text. refl))
 
   abbrev goes_parts : Test
   goes_parts = either (seen l.TextMiddle) (goes_or free)
@@ -212,13 +106,13 @@ module _ (effort : Effort) (rec : Wanted → Reader Tree) (S T : Wanted → Form
   exact_parts : Exact effort Any (f.many (ex.part_behind S within free)) (f.many (ex.part_behind T within free)) goes_parts (many (seen l.TextMiddle) (primaries.part_behind turns rec within free) turns)
   exact_parts =
       exact_many effort (seen l.TextMiddle) (goes_or free) (seen_apart l.TextMiddle (goes_or free) (λ spaced. refl)) (ex.part_behind S within free) (ex.part_behind T within free)
-      (primaries.part_behind turns rec within free) (weaken _ exact_part_behind) (λ w x rest c. b.led_seen l.TextMiddle w rest (led_middle w x c))
+      (primaries.part_behind turns rec within free) (weaken _ exact_part_behind) (λ w x rest c. led_seen l.TextMiddle w rest (led_middle w x c))
 
-  abbrev insertions_of : Word → Tree → List (Tree × List ℕ) → Word → Tree
+  abbrev pub insertions_of : Word → Tree → List (Tree × List ℕ) → Word → Tree
   insertions_of first value more last =
       tree.Insertions first.at (first.text ∷ map (λ (x : Tree × List ℕ). x.1) more ++ last.text ∷ []) (value ∷ map (λ (x : Tree × List ℕ). x.0) more)
 
-  abbrev last_part : Word → Tree → List (Tree × List ℕ) → Form Tree
+  abbrev pub last_part : Word → Tree → List (Tree × List ℕ) → Form Tree
   last_part first value more = f.◌>>=◌ (f.holding (λ text. k.TextLast text)) (λ last. f.nothing (insertions_of first value more last))
 
   abbrev parts_behind : (Wanted → Form Tree) → Word → Tree → Form Tree
@@ -227,19 +121,19 @@ module _ (effort : Effort) (rec : Wanted → Reader Tree) (S T : Wanted → Form
   abbrev values_behind : (Wanted → Form Tree) → Word → Form Tree
   values_behind Q first = f.◌>>=◌ (Q (Or within free)) (parts_behind Q first)
 
-  pub led_last : (first : Word) (value : Tree) (more : List (Tree × List ℕ)) → b.LedBy l.TextLast (last_part first value more)
-  led_last first value more = b.led_bind l.TextLast (f.holding (λ text. k.TextLast text)) _ (b.led_held (λ text. k.TextLast text) l.TextLast (λ text. refl))
+  pub led_last : (first : Word) (value : Tree) (more : List (Tree × List ℕ)) → LedBy l.TextLast (last_part first value more)
+  led_last first value more = led_bind l.TextLast (f.holding (λ text. k.TextLast text)) _ (led_held (λ text. k.TextLast text) l.TextLast (λ text. refl))
 
-  last_some : (first : Word) (value : Tree) (more : List (Tree × List ℕ)) → b.Spelled (last_part first value more)
-  last_some first value more = b.spelled_bind (b.spelled_held (λ text. k.TextLast text)) (λ last. b.spelled_nothing (insertions_of first value more last))
+  last_some : (first : Word) (value : Tree) (more : List (Tree × List ℕ)) → Spelled (last_part first value more)
+  last_some first value more = spelled_bind (spelled_held (λ text. k.TextLast text)) (λ last. spelled_nothing (insertions_of first value more last))
 
   exact_last : (first : Word) (value : Tree) (more : List (Tree × List ℕ)) → Exact effort Any (last_part first value more) (last_part first value more) never
       (holder last_text >>= λ last. pure (insertions_of first value more last))
   exact_last first value more =
       exact_bind (λ last. f.nothing (insertions_of first value more last)) (λ last. f.nothing (insertions_of first value more last)) never _ (words.exact_last_text effort never)
       (λ last. exact_pure effort (insertions_of first value more last) never)
-      (λ last. b.spelled_nothing (insertions_of first value more last))
-      (λ last. b.follows_never (f.nothing (insertions_of first value more last)) never)
+      (λ last. spelled_nothing (insertions_of first value more last))
+      (λ last. follows_never (f.nothing (insertions_of first value more last)) never)
 
   pub exact_insertions : Exact effort Any (ex.insertions S within free) (ex.insertions T within free) never (primaries.insertions turns rec within free)
   unfolding same_look
@@ -249,13 +143,13 @@ module _ (effort : Effort) (rec : Wanted → Reader Tree) (S T : Wanted → Form
       (exact_bind (parts_behind S first) (parts_behind T first) never _ exact_inserted
       (λ value. exact_bind (last_part first value) (last_part first value) never _ exact_parts
       (λ more. exact_last first value more) (λ more. last_some first value more)
-      (λ more. b.follows_led l.TextLast goes_parts never (last_part first value more) (λ spaced. refl) (led_last first value more)))
-      (λ value. b.spelled_bind (b.spelled_many _) (λ more. last_some first value more))
-      (λ value. b.follows_bind (goes_or free) never (f.many (ex.part_behind T within free)) (last_part first value)
-      (b.follows_many (goes_or free) (ex.part_behind T within free) (b.follows_led l.TextMiddle (goes_or free) (goes_or free) (ex.part_behind T within free) (λ spaced. refl) led_middle))
-      (λ more. b.follows_led l.TextLast (goes_or free) never (last_part first value more) (λ spaced. refl) (led_last first value more)))))
-      (λ first. b.spelled_bind (given.some (Or within free)) (λ value. b.spelled_bind (b.spelled_many _) (λ more. last_some first value more)))
-      (λ first. b.follows_never (values_behind T first) never)
+      (λ more. follows_led l.TextLast goes_parts never (last_part first value more) (λ spaced. refl) (led_last first value more)))
+      (λ value. spelled_bind (spelled_many _) (λ more. last_some first value more))
+      (λ value. follows_bind (goes_or free) never (f.many (ex.part_behind T within free)) (last_part first value)
+      (follows_many (goes_or free) (ex.part_behind T within free) (follows_led l.TextMiddle (goes_or free) (goes_or free) (ex.part_behind T within free) (λ spaced. refl) led_middle))
+      (λ more. follows_led l.TextLast (goes_or free) never (last_part first value more) (λ spaced. refl) (led_last first value more)))))
+      (λ first. spelled_bind (given.some (Or within free)) (λ value. spelled_bind (spelled_many _) (λ more. last_some first value more)))
+      (λ first. follows_never (values_behind T first) never)
 
   -- ---- arrays
 
@@ -265,13 +159,8 @@ module _ (effort : Effort) (rec : Wanted → Reader Tree) (S T : Wanted → Form
   abbrev goes_of : Test
   goes_of = either (seen l.Of) goes_type
 
-  pub of_less : b.Less goes_of goes
-  of_less = b.less_either (seen l.Of) goes_type goes (b.less_seen l.Of goes (λ spaced. refl)) (b.type_less free)
-
-  -- Values begin with no token of a look that begins none.
-  pub values_ahead : (look : TokenLook) → begins_or within look ≡ false → (free : Bool) → b.Ahead (seen look) (T (Or within free))
-  values_ahead look stops open_ =
-      b.ahead_first (begins_or within) (seen look) (T (Or within open_)) (b.apart_seen (begins_or within) look stops) (given.or_begins within open_)
+  pub of_less : Less goes_of goes
+  of_less = less_either (seen l.Of) goes_type goes (less_seen l.Of goes (λ spaced. refl)) (type_less free)
 
   abbrev element_of : (Wanted → Form Tree) → Form Tree
   element_of Q = f.◌>>◌ (f.word l.Of) (Q (Written true))
@@ -280,22 +169,22 @@ module _ (effort : Effort) (rec : Wanted → Reader Tree) (S T : Wanted → Form
   exact_element =
       exact_optional effort (element_of S) (element_of T) goes_type (expect l.Of >> part (rec (Written true)))
       (exact_bind (λ _. S (Written true)) (λ _. T (Written true)) goes_type _ (exact_word effort k.Of never)
-      (λ _. exact_part (rec (Written true)) (given.exact (Written true))) (λ _. given.some (Written true)) (λ _. b.follows_never (T (Written true)) goes_type))
-      (seen l.Of) (λ w x rest c. b.led_seen l.Of w rest (b.led_at l.Of w c.0 c.1 c.2 c.3 c.4))
+      (λ _. exact_part (rec (Written true)) (given.exact (Written true))) (λ _. given.some (Written true)) (λ _. follows_never (T (Written true)) goes_type))
+      (seen l.Of) (λ w x rest c. led_seen l.Of w rest (led_at l.Of w c.0 c.1 c.2 c.3 c.4))
 
   abbrev elements_behind : (Wanted → Form Tree) → ℕ → List Tree → Form Tree
   elements_behind Q at elements = f.◌>>=◌ (f.maybe (element_of Q)) (λ element. f.nothing (tree.Array at elements element))
 
-  elements_some : (at : ℕ) (elements : List Tree) → b.Spelled (elements_behind S at elements)
-  elements_some at elements = b.spelled_bind (b.spelled_maybe _) (λ element. b.spelled_nothing (tree.Array at elements element))
+  elements_some : (at : ℕ) (elements : List Tree) → Spelled (elements_behind S at elements)
+  elements_some at elements = spelled_bind (spelled_maybe _) (λ element. spelled_nothing (tree.Array at elements element))
 
   exact_elements_behind : (at : ℕ) (elements : List Tree) → Exact effort Any (elements_behind S at elements) (elements_behind T at elements) goes
       (optional (seen l.Of) (expect l.Of >> part (rec (Written true))) >>= λ element. pure (tree.Array at elements element))
   exact_elements_behind at elements =
       exact_bind (λ element. f.nothing (tree.Array at elements element)) (λ element. f.nothing (tree.Array at elements element)) goes _ exact_element
       (λ element. exact_pure effort (tree.Array at elements element) goes)
-      (λ element. b.spelled_nothing (tree.Array at elements element))
-      (λ element. b.follows_nothing goes_of goes (tree.Array at elements element) of_less)
+      (λ element. spelled_nothing (tree.Array at elements element))
+      (λ element. follows_nothing goes_of goes (tree.Array at elements element) of_less)
 
   abbrev array_behind : (Wanted → Form Tree) → ℕ → Form Tree
   array_behind Q at = closed_then (f.or_none (ex.inside Q within free)) (f.word l.CloseBracket) (elements_behind Q at)
@@ -309,28 +198,28 @@ module _ (effort : Effort) (rec : Wanted → Reader Tree) (S T : Wanted → Form
       (separators turns) (unless_closed l.CloseBracket (bodies.inside turns rec within)) (expect l.CloseBracket)
       (λ elements. optional (seen l.Of) (expect l.Of >> part (rec (Written true))) >>= λ element. pure (tree.Array at elements element))
       (exact_or_none effort (ex.inside S within free) (ex.inside T within free) goes_inside (bodies.inside turns rec within) (exact_inside effort rec S T given within free)
-      (b.ahead_bind (seen l.Newline) (T (Or within true)) _ (values_ahead l.Newline refl true)) (λ spaced. refl)
-      k.CloseBracket (λ spaced. refl) (λ e. cc) (b.ahead_bind (seen l.CloseBracket) (T (Or within true)) _ (values_ahead l.CloseBracket refl true)))
+      (first_bind false (seen l.Newline) (T (Or within true)) _ (or_halts effort rec S T given within true l.Newline refl)) (λ spaced. refl)
+      k.CloseBracket (λ spaced. refl) (λ e. cc) (first_bind false (seen l.CloseBracket) (T (Or within true)) _ (or_halts effort rec S T given within true l.CloseBracket refl)))
       (exact_elements_behind at) (elements_some at)
 
-  array_some : (at : ℕ) → b.Spelled (array_behind S at)
+  array_some : (at : ℕ) → Spelled (array_behind S at)
   array_some at =
-      b.spelled_bind b.spelled_seps (λ _. b.spelled_bind (b.spelled_none _) (λ elements. b.spelled_bind b.spelled_seps (λ _.
-      b.spelled_bind (b.spelled_word k.CloseBracket) (λ _. elements_some at elements))))
+      spelled_bind spelled_seps (λ _. spelled_bind (spelled_none _) (λ elements. spelled_bind spelled_seps (λ _.
+      spelled_bind (spelled_word k.CloseBracket) (λ _. elements_some at elements))))
 
   pub exact_array : Exact effort Any (ex.array S within free) (ex.array T within free) goes (primaries.array turns rec within free)
   exact_array =
       exact_bind (array_behind S) (array_behind T) goes _ (exact_word effort k.OpenBracket never)
       (λ at. exact_silent (grow at) (silent_grow at) _ (exact_array_behind at))
       array_some
-      (λ at. b.follows_never (array_behind T at) goes)
+      (λ at. follows_never (array_behind T at) goes)
 
   -- ---- hashes
 
   abbrev pair_of : Tree → Tree → Tree
   pair_of key value = tree.Pair key value
 
-  module _ (R C : Form Tree) (g : Test) (p : Reader Tree) (ep : Exact effort Any R C g p) (ahead : NoLine C) (some : b.Spelled R) where
+  module _ (R C : Form Tree) (g : Test) (p : Reader Tree) (ep : Exact effort Any R C g p) (ahead : NoLine C) (some : Spelled R) where
     abbrev value_behind : Form Tree → Tree → Form Tree
     value_behind Q key = f.◌>>=◌ Q (λ value. f.nothing (pair_of key value))
 
@@ -341,34 +230,34 @@ module _ (effort : Effort) (rec : Wanted → Reader Tree) (S T : Wanted → Form
     exact_value key =
         exact_bind (λ value. f.nothing (pair_of key value)) (λ value. f.nothing (pair_of key value)) g _ ep
         (λ value. exact_pure effort (pair_of key value) g)
-        (λ value. b.spelled_nothing (pair_of key value))
-        (λ value. b.follows_nothing g g (pair_of key value) (λ look spaced e. e))
+        (λ value. spelled_nothing (pair_of key value))
+        (λ value. follows_nothing g g (pair_of key value) (λ look spaced e. e))
 
-    value_some : (key : Tree) → b.Spelled (value_behind R key)
-    value_some key = b.spelled_bind some (λ value. b.spelled_nothing (pair_of key value))
+    value_some : (key : Tree) → Spelled (value_behind R key)
+    value_some key = spelled_bind some (λ value. spelled_nothing (pair_of key value))
 
     exact_arrow : (key : Tree) → Exact effort Any (arrow_behind R key) (arrow_behind C key) g (expect l.Arrow >> (separators turns >> (p >>= λ value. pure (pair_of key value))))
     exact_arrow key =
         exact_map (arrow_behind R key) (arrow_behind C key)
-        (assoc_back (f.word l.Arrow) (λ _. f.seps) (λ _. value_behind R key)) (assoc_out (f.word l.Arrow) (λ _. f.seps) (λ _. value_behind C key))
+        (bind_in (f.word l.Arrow) (λ _. f.seps) (λ _. value_behind R key)) (bind_out (f.word l.Arrow) (λ _. f.seps) (λ _. value_behind C key))
         (exact_bind (λ _. f.◌>>◌ f.seps (value_behind R key)) (λ _. f.◌>>◌ f.seps (value_behind C key)) g _ (exact_word effort k.Arrow never)
         (λ _. exact_bind (λ _. value_behind R key) (λ _. value_behind C key) g _ (exact_separators effort) (λ _. exact_value key) (λ _. value_some key)
-        (λ _. b.follows_ahead (seen l.Newline) g (value_behind C key) (b.ahead_bind (seen l.Newline) C _ ahead)))
-        (λ _. b.spelled_bind b.spelled_seps (λ _. value_some key))
-        (λ _. b.follows_never (f.◌>>◌ f.seps (value_behind C key)) g))
+        (λ _. follows_ahead (seen l.Newline) g (value_behind C key) (first_bind false (seen l.Newline) C _ ahead)))
+        (λ _. spelled_bind spelled_seps (λ _. value_some key))
+        (λ _. follows_never (f.◌>>◌ f.seps (value_behind C key)) g))
 
-    pair_end_some : (key : Tree) → b.Spelled (arrow_behind R key)
-    pair_end_some key = b.spelled_bind (b.spelled_bind (b.spelled_word k.Arrow) (λ _. b.spelled_seps)) (λ _. value_some key)
+    pair_end_some : (key : Tree) → Spelled (arrow_behind R key)
+    pair_end_some key = spelled_bind (spelled_bind (spelled_word k.Arrow) (λ _. spelled_seps)) (λ _. value_some key)
 
     pub exact_pair : Not l.Arrow g → Exact effort Any (ex.pair S within free R) (ex.pair T within free C) g (primaries.pair turns rec within free p)
     exact_pair stops =
         exact_bind (arrow_behind R) (arrow_behind C) g _ ep exact_arrow pair_end_some
-        (λ key. b.follows_led l.Arrow g g (arrow_behind C key) stops
-        (b.led_bind l.Arrow (ex.arrow T within free) (λ _. value_behind C key) (b.led l.Arrow (λ _. f.seps))))
+        (λ key. follows_led l.Arrow g g (arrow_behind C key) stops
+        (led_bind l.Arrow (ex.arrow T within free) (λ _. value_behind C key) (led l.Arrow (λ _. f.seps))))
 
-  pub pair_some : (R : Form Tree) → b.Spelled R → b.Spelled (ex.pair S within free R)
+  pub pair_some : (R : Form Tree) → Spelled R → Spelled (ex.pair S within free R)
   pair_some R some =
-      b.spelled_bind some (λ key. b.spelled_bind (b.spelled_bind (b.spelled_word k.Arrow) (λ _. b.spelled_seps)) (λ _. b.spelled_bind some (λ value. b.spelled_nothing (pair_of key value))))
+      spelled_bind some (λ key. spelled_bind (spelled_bind (spelled_word k.Arrow) (λ _. spelled_seps)) (λ _. spelled_bind some (λ value. spelled_nothing (pair_of key value))))
 
   abbrev goes_pairs : Test
   goes_pairs = either (seen l.Comma) (goes_or free)
@@ -381,8 +270,8 @@ module _ (effort : Effort) (rec : Wanted → Reader Tree) (S T : Wanted → Form
       let first = pair_some (S (Or within free)) (given.some (Or within free)) in
       exact_listed effort (ex.pair S within free (S (Or within free))) (ex.pair T within free (T (Or within free))) (goes_or free)
       (primaries.pair turns rec within free (part (rec (Or within free))))
-      (exact_pair (S (Or within free)) (T (Or within free)) (goes_or free) (part (rec (Or within free))) exact_inserted (values_ahead l.Newline refl free) (given.some (Or within free)) (λ spaced. refl))
-      (b.ahead_bind (seen l.Newline) (T (Or within free)) _ (values_ahead l.Newline refl free)) first.0 first.1 first.2
+      (exact_pair (S (Or within free)) (T (Or within free)) (goes_or free) (part (rec (Or within free))) exact_inserted (or_halts effort rec S T given within free l.Newline refl) (given.some (Or within free)) (λ spaced. refl))
+      (first_bind false (seen l.Newline) (T (Or within free)) _ (or_halts effort rec S T given within free l.Newline refl)) first.0 first.1 first.2
       (seen_apart l.Comma (goes_or free) (λ spaced. refl))
 
   abbrev entry_of : (Wanted → Form Tree) → Form Tree
@@ -396,9 +285,9 @@ module _ (effort : Effort) (rec : Wanted → Reader Tree) (S T : Wanted → Form
       exact_optional effort (entry_of S) (entry_of T) goes_type (expect l.Of >> primaries.pair turns rec within free (part (rec (Written true))))
       (exact_bind (λ _. ex.pair S within free (S (Written true))) (λ _. ex.pair T within free (T (Written true))) goes_type _ (exact_word effort k.Of never)
       (λ _. exact_pair (S (Written true)) (T (Written true)) goes_type (part (rec (Written true))) (exact_part (rec (Written true)) (given.exact (Written true)))
-      (b.ahead_first begins_type (seen l.Newline) (T (Written true)) (b.apart_seen begins_type l.Newline refl) (given.type_begins true)) (given.some (Written true)) (λ spaced. refl))
-      (λ _. pair_some (S (Written true)) (given.some (Written true))) (λ _. b.follows_never (ex.pair T within free (T (Written true))) goes_type))
-      (seen l.Of) (λ w x rest c. b.led_seen l.Of w rest (b.led_at l.Of w c.0 c.1 c.2 c.3 c.4))
+      (first_tested false begins_type (seen l.Newline) (T (Written true)) (look_apart begins_type l.Newline refl) (given.type_begins true)) (given.some (Written true)) (λ spaced. refl))
+      (λ _. pair_some (S (Written true)) (given.some (Written true))) (λ _. follows_never (ex.pair T within free (T (Written true))) goes_type))
+      (seen l.Of) (λ w x rest c. led_seen l.Of w rest (led_at l.Of w c.0 c.1 c.2 c.3 c.4))
 
   abbrev hash_end : (Wanted → Form Tree) → ℕ → List Tree → Form Tree
   hash_end Q at entries = f.◌>>◌ (f.word l.CloseBrace) (f.◌>>=◌ (f.maybe (entry_of Q)) (λ entry. f.nothing (tree.Hash at entries entry)))
@@ -406,8 +295,8 @@ module _ (effort : Effort) (rec : Wanted → Reader Tree) (S T : Wanted → Form
   abbrev read_hash_end : ℕ → List Tree → Reader Tree
   read_hash_end at entries = expect l.CloseBrace >> (read_entry >>= λ entry. pure (tree.Hash at entries entry))
 
-  hash_end_some : (at : ℕ) (entries : List Tree) → b.Spelled (hash_end S at entries)
-  hash_end_some at entries = b.spelled_bind (b.spelled_word k.CloseBrace) (λ _. b.spelled_bind (b.spelled_maybe _) (λ entry. b.spelled_nothing (tree.Hash at entries entry)))
+  hash_end_some : (at : ℕ) (entries : List Tree) → Spelled (hash_end S at entries)
+  hash_end_some at entries = spelled_bind (spelled_word k.CloseBrace) (λ _. spelled_bind (spelled_maybe _) (λ entry. spelled_nothing (tree.Hash at entries entry)))
 
   exact_hash_end : (at : ℕ) (entries : List Tree) → Exact effort Any (hash_end S at entries) (hash_end T at entries) goes (read_hash_end at entries)
   exact_hash_end at entries =
@@ -415,10 +304,10 @@ module _ (effort : Effort) (rec : Wanted → Reader Tree) (S T : Wanted → Form
       exact_bind (λ _. f.◌>>=◌ (f.maybe (entry_of S)) hash_of) (λ _. f.◌>>=◌ (f.maybe (entry_of T)) hash_of) goes _ (exact_word effort k.CloseBrace never)
       (λ _. exact_bind hash_of hash_of goes _ exact_entry
       (λ entry. exact_pure effort (tree.Hash at entries entry) goes)
-      (λ entry. b.spelled_nothing (tree.Hash at entries entry))
-      (λ entry. b.follows_nothing goes_of goes (tree.Hash at entries entry) of_less))
-      (λ _. b.spelled_bind (b.spelled_maybe _) (λ entry. b.spelled_nothing (tree.Hash at entries entry)))
-      (λ _. b.follows_never (f.◌>>=◌ (f.maybe (entry_of T)) hash_of) goes)
+      (λ entry. spelled_nothing (tree.Hash at entries entry))
+      (λ entry. follows_nothing goes_of goes (tree.Hash at entries entry) of_less))
+      (λ _. spelled_bind (spelled_maybe _) (λ entry. spelled_nothing (tree.Hash at entries entry)))
+      (λ _. follows_never (f.◌>>=◌ (f.maybe (entry_of T)) hash_of) goes)
 
   abbrev entries_of : (Wanted → Form Tree) → ℕ → Form Tree
   entries_of Q at = f.◌>>=◌ (f.or_none (pairs_of Q)) (hash_end Q at)
@@ -428,22 +317,22 @@ module _ (effort : Effort) (rec : Wanted → Reader Tree) (S T : Wanted → Form
   unfolding same_look
   exact_entries at =
       exact_or_closed k.CloseBrace (pairs_of S) (pairs_of T) goes_pairs _ (hash_end S at) (hash_end T at) goes (read_hash_end at)
-      exact_pairs (exact_hash_end at) (hash_end_some at) (λ entries. b.led l.CloseBrace _) (λ spaced. refl)
-      (b.ahead_bind (seen l.CloseBrace) (ex.pair T within free (T (Or within free))) _ (b.ahead_bind (seen l.CloseBrace) (T (Or within free)) _ (values_ahead l.CloseBrace refl free)))
+      exact_pairs (exact_hash_end at) (hash_end_some at) (λ entries. led l.CloseBrace _) (λ spaced. refl)
+      (first_bind false (seen l.CloseBrace) (ex.pair T within free (T (Or within free))) _ (first_bind false (seen l.CloseBrace) (T (Or within free)) _ (or_halts effort rec S T given within free l.CloseBrace refl)))
 
   -- Entries, or the brace that closes them, begin with no separator.
-  once_ahead : (at : ℕ) → b.Ahead (seen l.Newline) (at_once (pairs_of T) (hash_end T at))
+  once_ahead : (at : ℕ) → Halts (seen l.Newline) (empty_or (pairs_of T) (hash_end T at))
   unfolding same_look
-  once_ahead at w x rest (inl c) = b.led_stops l.CloseBrace (seen l.Newline) (λ spaced. refl) w rest (b.led_at l.CloseBrace w c.0 c.1 c.2 c.3 c.4)
+  once_ahead at w x rest (inl c) = led_first false l.CloseBrace (seen l.Newline) (λ spaced. refl) w rest (led_at l.CloseBrace w c.0 c.1 c.2 c.3 c.4)
   once_ahead at w x rest (inr c) =
-      b.ahead_bind (seen l.Newline) (pairs_of T) (hash_end T at)
-      (b.ahead_bind (seen l.Newline) (ex.pair T within free (T (Or within free))) _ (b.ahead_bind (seen l.Newline) (T (Or within free)) _ (values_ahead l.Newline refl free))) w x rest c
+      first_bind false (seen l.Newline) (pairs_of T) (hash_end T at)
+      (first_bind false (seen l.Newline) (ex.pair T within free (T (Or within free))) _ (first_bind false (seen l.Newline) (T (Or within free)) _ (or_halts effort rec S T given within free l.Newline refl))) w x rest c
 
-  pub entries_follow : (at : ℕ) → b.Follows (seen l.Newline) (entries_of T at) goes
-  entries_follow at w x rest c stop = once_ahead at w x rest (once_back (pairs_of T) (hash_end T at) w x c)
+  pub entries_follow : (at : ℕ) → Follows (seen l.Newline) (entries_of T at) goes
+  entries_follow at w x rest c stop = once_ahead at w x rest (empty_or_in (pairs_of T) (hash_end T at) w x c)
 
-  entries_some : (at : ℕ) → b.Spelled (entries_of S at)
-  entries_some at = b.spelled_bind (b.spelled_none _) (λ entries. hash_end_some at entries)
+  entries_some : (at : ℕ) → Spelled (entries_of S at)
+  entries_some at = spelled_bind (spelled_none _) (λ entries. hash_end_some at entries)
 
   abbrev hash_behind : (Wanted → Form Tree) → ℕ → Form Tree
   hash_behind Q at = f.◌>>◌ f.seps (entries_of Q at)
@@ -453,5 +342,5 @@ module _ (effort : Effort) (rec : Wanted → Reader Tree) (S T : Wanted → Form
       exact_bind (hash_behind S) (hash_behind T) goes _ (exact_word effort k.OpenBrace never)
       (λ at. exact_silent (grow at) (silent_grow at) _
       (exact_bind (λ _. entries_of S at) (λ _. entries_of T at) goes _ (exact_separators effort) (λ _. exact_entries at) (λ _. entries_some at) (λ _. entries_follow at)))
-      (λ at. b.spelled_bind b.spelled_seps (λ _. entries_some at))
-      (λ at. b.follows_never (hash_behind T at) goes)
+      (λ at. spelled_bind spelled_seps (λ _. entries_some at))
+      (λ at. follows_never (hash_behind T at) goes)

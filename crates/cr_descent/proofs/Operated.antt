@@ -15,8 +15,9 @@ use Rattle.cr_grammar.specs.Expressions as ex
 use Rattle.cr_exact.specs.Reader.{Test, passes}
 use Rattle.cr_descent.specs.Goes.{goes_operand}
 use Rattle.cr_descent.specs.Statements.{is_assigning}
-use Rattle.cr_descent.proofs.OperationForms.{Real, chain, at_most_one, prod_rest, sum_rest, shift_rest, cmp_rest, and_rest, or_rest, level_real, prod_splits, sum_splits, shift_splits, cmp_splits, and_splits, first_real, append_some, operator_out}
-use Rattle.cr_descent.proofs.Commands.{Settled, settled_same}
+use Rattle.cr_exact.proofs.Forms.{Real, append_none}
+use Rattle.cr_descent.proofs.OperationForms.{chain, at_most_one, prod_rest, sum_rest, shift_rest, cmp_rest, and_rest, or_rest, level_real, prod_splits, sum_splits, shift_splits, cmp_splits, and_splits, first_real, operator_out}
+use Rattle.cr_exact.proofs.TwoTokens.{Settled, settled_same}
 use Rattle.cr_descent.proofs.StatementForms.{settled_front}
 
 -- An operator and an operand: no argument begins so behind a name, and nothing is assigned.
@@ -97,10 +98,6 @@ two_tokens before t (u ∷ v) some value assigns link is = record {
   no_link = link;
 }
 
-append_first : (a b : List Token) → (a ≡ [] → ⊥) → a ++ b ≡ [] → ⊥
-append_first [] b some e = some refl
-append_first (t ∷ a) b some e = cc
-
 module _ (S : Wanted → Form Tree) (within : Within) (free : Bool) where
   -- Nothing is spelled and nothing changed, or an operator comes.
   abbrev pub Fine : (Tree × TokenLook → Form (Tree × TokenLook)) → Type 0
@@ -114,7 +111,7 @@ module _ (S : Wanted → Form Tree) (within : Within) (free : Bool) where
       let t = op.0 in
       let n = d.5 in
       let split : w ≡ t ∷ (op.1 ++ d.1) = d.3 ∙ ap (λ (v : List Token). v ++ d.1) op.2 in
-      let some : op.1 ++ d.1 ≡ [] → ⊥ = append_some op.1 d.1 (λ none. append_first n.0 n.1 (real n.0 n.2.0 n.4.0) (sym n.3 ∙ none)) in
+      let some : op.1 ++ d.1 ≡ [] → ⊥ = λ none. real n.0 n.2.0 n.4.0 (append_none n.0 n.1 (sym n.3 ∙ (append_none op.1 d.1 none).1)).0 in
       let facts = is (look_of t.kind) d.2.1 op.3 in
       subst (Operated x.1) (sym split) (two_tokens x.1 t (op.1 ++ d.1) some facts.0 facts.1 (facts.2 t.spaced) (subst (λ (v : List Token). IsTrue (o.is_operation x.1 v)) split c.0))
 

@@ -18,55 +18,14 @@ use Rattle.cr_grammar.specs.Expressions as ex
 use Rattle.cr_grammar.proofs.First.{behind, led, postfix_first}
 use Rattle.cr_exact.specs.Reader.{passes}
 use Rattle.cr_descent.specs.Operations.{Operator, operator_of, is_spaced}
-
--- ---- forms one behind the other
-
--- all that R spells S spells
-abbrev pub Included : {A : Type 0} → Form A → Form A → Type 0
-Included R S = (w : List Token) (x : _) → R w x → S w x
-
-pub bind_out : {A B C : Type 0} (R : Form A) (S : A → Form B) (Q : B → Form C) → Included (R >>= S >>= Q) (R >>= λ x. S x >>= Q)
-bind_out R S Q w z c =
-    let d = c.4 in
-    (d.0, d.1 ++ c.1, d.2, c.3 ∙ ap (λ (t : List Token). t ++ c.1) d.3 ∙ append_assoc d.0 d.1 c.1, d.4, (d.1, c.1, c.2, refl, d.5, c.5))
-
-pub bind_in : {A B C : Type 0} (R : Form A) (S : A → Form B) (Q : B → Form C) → Included (R >>= λ x. S x >>= Q) (R >>= S >>= Q)
-bind_in R S Q w z c =
-    let d = c.5 in
-    (c.0 ++ d.0, d.1, d.2, c.3 ∙ ap (λ (t : List Token). c.0 ++ t) d.3 ∙ sym (append_assoc c.0 d.0 d.1), (c.0, d.0, c.2, refl, c.4, d.4), d.5)
-
-pub bind_first : {A B : Type 0} (R R' : Form A) (S : A → Form B) → Included R R' → Included (R >>= S) (R' >>= S)
-bind_first R R' S h w y c = (c.0, c.1, c.2, c.3, h c.0 c.2 c.4, c.5)
-
-pub nothing_out : {A B : Type 0} (R : Form A) (f : A → B) (w : List Token) (y : B) → (R >>= λ x. nothing (f x)) w y → (x : A) × R w x × (y ≡ f x)
-nothing_out R f w y c = (c.2, subst (λ v. R v c.2) (sym (c.3 ∙ ap (λ (t : List Token). c.0 ++ t) c.5.0 ∙ append-nil c.0)) c.4, c.5.1)
-
-pub nothing_in : {A B : Type 0} (R : Form A) (f : A → B) (w : List Token) (x : A) → R w x → (R >>= λ x. nothing (f x)) w (f x)
-nothing_in R f w x r = (w, [], x, sym (append-nil w), r, (refl, refl))
+use Rattle.cr_exact.proofs.Tokens.{some_one}
+use Rattle.cr_exact.proofs.Forms.{Included, bind_out, bind_in, included_bind, made_out, made_in, Real, last_behind, begins_some, append_none}
 
 -- ---- the look of the last token
 
 -- a tree, and the look of its last token
 abbrev pub Ended : Type 0
 Ended = Tree × TokenLook
-
--- Some token is read.
-abbrev pub Real : {A : Type 0} → Form A → Type 0
-Real R = (w : List Token) (x : _) → R w x → w ≡ [] → ⊥
-
-last_behind : (a b : List Token) → (b ≡ [] → ⊥) → last_look (a ++ b) ≡ last_look b
-last_behind [] b some = refl
-last_behind (t ∷ []) [] some = absurd (some refl)
-last_behind (t ∷ []) (u ∷ b) some = refl
-last_behind (t ∷ u ∷ a) b some = last_behind (u ∷ a) b some
-
-pub begins_some : (test : TokenLook → Bool) (w : List Token) → first_is test w ≡ true → w ≡ [] → ⊥
-begins_some test [] is e = cc
-begins_some test (t ∷ w) is e = cc
-
-pub append_some : (a b : List Token) → (b ≡ [] → ⊥) → a ++ b ≡ [] → ⊥
-append_some [] b some e = some e
-append_some (t ∷ a) b some e = cc
 
 -- ---- levels of operators
 
@@ -89,7 +48,7 @@ module _ (S : Wanted → Form Tree) (within : Within) (free : Bool) where
     operation_look : (x u : Ended) (w : List Token) → operation table R x w u → (a : List Token) → u.1 ≡ last_look (a ++ w)
     operation_look x u w c a =
         let d = c.1 in
-        let n = nothing_out (with_last R) (λ (y : Ended). let z : Ended = (tree.Binary d.2.0 d.2.1 x.0 y.0, y.1) in z) d.1 u d.5 in
+        let n = made_out (with_last R) (λ (y : Ended). let z : Ended = (tree.Binary d.2.0 d.2.1 x.0 y.0, y.1) in z) d.1 u d.5 in
         ap (λ (v : Ended). v.1) n.2 ∙ n.1.1 ∙ sym (last_behind (a ++ d.0) d.1 (real d.1 n.0.0 n.1.0))
         ∙ ap last_look (append_assoc a d.0 d.1 ∙ ap (λ (t : List Token). a ++ t) (sym d.3))
 
@@ -103,28 +62,28 @@ module _ (S : Wanted → Form Tree) (within : Within) (free : Bool) where
     pub chain_out : Included (with_last (ex.operations S within free table R)) (with_last R >>= chain table R)
     chain_out w z c =
         let d = c.0 in
-        let n = nothing_out (repeated (operation table R) d.2) (λ (y : Ended). y.0) d.1 z.0 d.5 in
+        let n = made_out (repeated (operation table R) d.2) (λ (y : Ended). y.0) d.1 z.0 d.5 in
         let look : z.1 ≡ n.0.1 = c.1 ∙ ap last_look d.3 ∙ sym (repeated_look n.1.0 d.2 n.0 d.1 d.0 n.1.1 d.4.1) in
         let same : n.0 ≡ z = λ i. (sym n.2 i, sym look i) in
         (d.0, d.1, d.2, d.3, d.4, subst (λ v. repeated (operation table R) d.2 d.1 v) same n.1)
 
     pub chain_in : Included (with_last R >>= chain table R) (with_last (ex.operations S within free table R))
     chain_in w z c = (
-      (c.0, c.1, c.2, c.3, c.4, nothing_in (repeated (operation table R) c.2) (λ (y : Ended). y.0) c.1 z c.5),
+      (c.0, c.1, c.2, c.3, c.4, made_in (repeated (operation table R) c.2) (λ (y : Ended). y.0) c.1 z c.5),
       repeated_look c.5.0 c.2 z c.1 c.0 c.5.1 c.4.1 ∙ ap last_look (sym c.3),
     )
 
     pub single_out : Included (with_last (ex.one_operation S within free table R)) (with_last R >>= at_most_one table R)
     single_out w z (inl r, is) = (w, [], z, sym (append-nil w), (r, is), inr (refl, refl))
     single_out w z (inr d, is) =
-        let n = nothing_out (operation table R d.2) (λ (y : Ended). y.0) d.1 z.0 d.5 in
+        let n = made_out (operation table R d.2) (λ (y : Ended). y.0) d.1 z.0 d.5 in
         let look : z.1 ≡ n.0.1 = is ∙ ap last_look d.3 ∙ sym (operation_look d.2 n.0 d.1 n.1 d.0) in
         let same : n.0 ≡ z = λ i. (sym n.2 i, sym look i) in
         (d.0, d.1, d.2, d.3, d.4, inl (subst (λ v. operation table R d.2 d.1 v) same n.1))
 
     pub single_in : Included (with_last R >>= at_most_one table R) (with_last (ex.one_operation S within free table R))
     single_in w z (a, b, x, e, r, inl c) =
-        (inr (a, b, x, e, r, nothing_in (operation table R x) (λ (y : Ended). y.0) b z c), operation_look x z b c a ∙ ap last_look (sym e))
+        (inr (a, b, x, e, r, made_in (operation table R x) (λ (y : Ended). y.0) b z c), operation_look x z b c a ∙ ap last_look (sym e))
     single_in w z (a, b, x, e, r, inr c) =
         let whole : w ≡ a = e ∙ ap (λ (t : List Token). a ++ t) c.0 ∙ append-nil a in
         (inl (subst (λ v. R v z.0) (sym whole) (subst (λ (v : Ended). R a v.0) (sym c.1) r.0)), ap (λ (v : Ended). v.1) c.1 ∙ r.1 ∙ ap last_look (sym whole))
@@ -158,8 +117,8 @@ module _ (S : Wanted → Form Tree) (within : Within) (free : Bool) where
       → Included (with_last H) (with_last L >>= M) → Included (with_last L >>= M) (with_last H) → ((x : Ended) → M x [] x)
       → Splits H (λ x. F x >>= M)
   level_above L F M H splits out back none = record {
-    out = λ w z c. bind_out (with_last First) F M w z (bind_first (with_last L) (with_last First >>= F) M splits.out w z (out w z c));
-    back = λ w z c. back w z (bind_first (with_last First >>= F) (with_last L) M splits.back w z (bind_in (with_last First) F M w z c));
+    out = λ w z c. bind_out (with_last First) F M w z (included_bind (with_last L) (with_last First >>= F) M splits.out w z (out w z c));
+    back = λ w z c. back w z (included_bind (with_last First >>= F) (with_last L) M splits.back w z (bind_in (with_last First) F M w z c));
     none = λ x. ([], [], x, refl, splits.none x, none x);
   }
 
@@ -264,14 +223,11 @@ sign_in : (name : Bool) (t : Token) (v : List Token) → (v ≡ [] → ⊥) → 
 sign_in name t [] some h = absurd (some refl)
 sign_in name t (u ∷ v) some h = next_spaced name _ t.spaced u.spaced h
 
-same_operator : (x y : Operator) → let some : Operator → Option Operator = Some in some x ≡ some y → x ≡ y
-same_operator x y e = cc
-
 pub operator_is : (t : Token) (found : Option Binary) (x : Operator) → operator_of t found ≡ Some x
     → (found ≡ Some x.operator) × (x.at ≡ t.span.first) × (x.sign ≡ (o.is_minus (look_of t.kind) && t.spaced))
 operator_is t None x e = absurd cc
 operator_is t (Some operator) x e =
-    let same = same_operator _ x e in
+    let same = some_one _ x e in
     (ap (λ (v : Operator). Some v.operator) same, sym (ap (λ (v : Operator). v.at) same), sym (ap (λ (v : Operator). v.sign) same))
 
 -- an operator, as it is read
@@ -293,23 +249,23 @@ module _ (R : Form Tree) (x : Ended) where
   module _ (real : Real R) where
     operand_real : (at : ℕ) (operator : Binary) → Real (operand_of at operator)
     operand_real at operator w u c e =
-        let n = nothing_out (with_last R) (λ (y : Ended). let z : Ended = (tree.Binary at operator x.0 y.0, y.1) in z) w u c in
+        let n = made_out (with_last R) (λ (y : Ended). let z : Ended = (tree.Binary at operator x.0 y.0, y.1) in z) w u c in
         real w n.0.0 n.1.0 e
 
     pub behind_real : (found : Operator) → Real (operand_behind found)
-    behind_real found w u c e = append_some c.0 c.1 (operand_real found.at found.operator c.1 u c.5) (sym c.3 ∙ e)
+    behind_real found w u c e = operand_real found.at found.operator c.1 u c.5 (append_none c.0 c.1 (sym c.3 ∙ e)).1
 
 module _ (S : Wanted → Form Tree) (within : Within) (free : Bool) (table : TokenLook → Option Binary) where
   pub operator_out : (w : List Token) (x : ℕ × Binary) → ex.operator S within free table w x
       → (t : Token) × (s : List Token) × (w ≡ t ∷ s) × (table (look_of t.kind) ≡ Some x.1) × (x.0 ≡ t.span.first) × seps s tt
   operator_out w x c =
-      let n = nothing_out seps (λ _. c.2) c.1 x c.5 in
+      let n = made_out seps (λ _. c.2) c.1 x c.5 in
       let t = c.4 in
       let found = subst (λ (v : ℕ × Binary). (table (look_of t.0.kind) ≡ Some v.1) × (v.0 ≡ t.0.span.first)) (sym n.2) t.2 in
       (t.0, c.1, c.3 ∙ ap (λ (v : List Token). v ++ c.1) t.1, found.0, found.1, n.1)
 
   operator_in : (t : Token) (s : List Token) (x : Binary) → table (look_of t.kind) ≡ Some x → seps s tt → ex.operator S within free table (t ∷ s) (t.span.first, x)
-  operator_in t s x is c = (t ∷ [], s, (t.span.first, x), refl, (t, refl, (is, refl)), nothing_in seps (λ _. (t.span.first, x)) s tt c)
+  operator_in t s x is c = (t ∷ [], s, (t.span.first, x), refl, (t, refl, (is, refl)), made_in seps (λ _. (t.span.first, x)) s tt c)
 
   module _ (R : Form Tree) (real : Real R) (x : Ended) where
     pub operation_out : Included (ex.operation S within free table R x) (operation_read R x table)

@@ -1,7 +1,6 @@
 -- Operators and their operands are read exactly.
-use Rattle.std.proofs.Common.{◌≡◌, ℕ, zero, suc, Bool, true, false, ◌&&◌, cond, List, [], ◌∷◌, ◌++◌, inl, inr, refl, sym, ap, subst, ◌∙◌, append_assoc}
+use Rattle.std.proofs.Common.{◌≡◌, ℕ, Bool, true, false, ◌&&◌, cond, List, [], ◌∷◌, ◌++◌, inl, inr, refl, sym, ap, subst, ◌∙◌, append_assoc}
 use Rattle.std.specs.Prelude.{Option, Some, is_some}
-use Rattle.std.proofs.lemmas.List.{append-nil}
 use Rattle.cr_syntax.specs.declared.look.TokenLook.{TokenLook}
 use Rattle.cr_syntax.specs.declared.look.TokenLook.TheVariants as l
 use Rattle.cr_syntax.specs.declared.token.Token.{Token}
@@ -14,7 +13,7 @@ use Rattle.cr_grammar.specs.declared.operator.Unary.TheVariants as prefix
 use Rattle.cr_grammar.specs.declared.tree.Tree.{Tree}
 use Rattle.cr_grammar.specs.declared.tree.Tree.TheVariants as tree
 use Rattle.cr_grammar.specs.declared.within.Within.{Within}
-use Rattle.cr_grammar.specs.Forms.{Form, nothing, ◌<|>◌, repeated_of, word, with_last, last_look}
+use Rattle.cr_grammar.specs.Forms.{Form, nothing, ◌<|>◌, repeated_of, with_last, last_look}
 use Rattle.cr_grammar.specs.Forms as f
 use Rattle.cr_grammar.specs.Operators as o
 use Rattle.cr_grammar.specs.Wanted.{Wanted, Unary}
@@ -23,67 +22,28 @@ use Rattle.cr_grammar.specs.Expressions as ex
 use Rattle.cr_exact.specs.Reader.{State, Reader, and_then, ◌>>=◌, ◌>>◌, pure, refuse, Test, passes, look_at, seen, either, never, choose, only, repeated, grow, wrap, part}
 use Rattle.cr_exact.specs.Reader as r
 use Rattle.cr_exact.specs.Lists.{separators}
-use Rattle.cr_exact.specs.Exact.{last_from, Stops, Effort, Enough, Ends, Exact, Any}
-use Rattle.cr_exact.proofs.Sequence.{exact_bind, exact_pure, exact_map, exact_goes, weaken}
-use Rattle.cr_exact.proofs.Tokens.{Passing, clash, exact_take, exact_word, exact_choose, exact_only, look_is_same, same_look_is, a_token}
-use Rattle.cr_exact.proofs.Loops.{either_right, Apart, Heads, apart_stops, stops_left, stops_right, exact_repeated}
-use Rattle.cr_exact.proofs.Nodes.{exact_silent, exact_part, exact_last, silent_grow, silent_wrap}
+use Rattle.cr_exact.specs.Exact.{Stops, Effort, Exact, Any}
 use Rattle.cr_descent.specs.Goes as g
 use Rattle.cr_descent.specs.Operand.{whole}
 use Rattle.cr_descent.specs.Primaries as primaries
 use Rattle.cr_descent.specs.Links as links
 use Rattle.cr_descent.specs.Operations as operations
 use Rattle.cr_descent.specs.Operations.{Operator, operator_of}
-use Rattle.cr_descent.proofs.Lists.{exact_separators, exact_passing}
+use Rattle.cr_exact.proofs.TokenTests.{either_right, Apart, apart_stops, stops_left, stops_right, never_stops, look_apart, not_seen}
+use Rattle.cr_exact.proofs.Sequence.{exact_bind, exact_pure, exact_map, exact_goes, weaken}
+use Rattle.cr_exact.proofs.Tokens.{Passing, exact_take, exact_word, exact_choose, exact_only, a_token, never_begins}
+use Rattle.cr_exact.proofs.Forms.{begins_some, bind_in, bind_out, made_in, made_out, Real, Included}
+use Rattle.cr_exact.proofs.Heads.{Heads, led_heads, led_first, led_at, tested, other_first, passes_more, repeated_stop, heads_halts}
+use Rattle.cr_exact.proofs.Loops.{exact_repeated}
+use Rattle.cr_exact.proofs.Nodes.{exact_silent, exact_part, exact_last, silent_grow, silent_wrap}
+use Rattle.cr_exact.proofs.Lists.{exact_separators, exact_passing}
+use Rattle.cr_exact.proofs.Closed.{exact_same}
 use Rattle.cr_descent.proofs.Links.{exact_postfix_tree}
 use Rattle.cr_descent.proofs.OperationForms as forms
 use Rattle.cr_descent.proofs.OperationForms.{Ended}
 use Rattle.cr_descent.proofs.Claims as claims
 
 -- ---- first tokens
-
-pub stops_never : (ts : List Token) → Stops never ts
-stops_never [] = refl
-stops_never (t ∷ ts) = refl
-
-first_passes : (test : Test) (w rest : List Token) → passes test w ≡ true → passes test (w ++ rest) ≡ true
-first_passes test [] rest is = absurd cc
-first_passes test (t ∷ w) rest is = is
-
-not_true : (b : Bool) → (b ≡ true → ⊥) → b ≡ false
-not_true true h = absurd (h refl)
-not_true false h = refl
-
--- what begins with a token of another look
-pub begins_otherwise : (look : TokenLook) (w rest : List Token) → (w ≡ [] → ⊥) → (look_at w ≡ look → ⊥) → Stops (seen look) (w ++ rest)
-begins_otherwise found [] rest some other = absurd (some refl)
-begins_otherwise found (t ∷ w) rest some other = not_true _ (λ e. other (same_look_is _ _ e))
-
--- A value begins with no separator.
-pub begins_no_line : (within : Within) (w rest : List Token) → first_is (begins_or within) w ≡ true → Stops (seen l.Newline) (w ++ rest)
-begins_no_line within [] rest is = absurd cc
-begins_no_line within (t ∷ w) rest is =
-    not_true _ (λ e. absurd (clash refl (sym (ap (begins_or within) (same_look_is _ _ e)) ∙ is)))
-
--- what a word leads
-word_leads : (look : TokenLook) (w a b : List Token) (at : ℕ) → w ≡ a ++ b → word look a at → look_at w ≡ look
-word_leads found w a b at e c = ap look_at (e ∙ ap (λ (v : List Token). v ++ b) c.1) ∙ c.2.0
-
-pub word_heads : (look : TokenLook) (w a b rest : List Token) (at : ℕ) → w ≡ a ++ b → word look a at → passes (seen look) (w ++ rest) ≡ true
-word_heads found w a b rest at e c =
-    let whole : w ≡ c.0 ∷ b = e ∙ ap (λ (v : List Token). v ++ b) c.1 in
-    ap (λ (v : List Token). passes (seen found) (v ++ rest)) whole ∙ look_is_same _ _ c.2.0
-
-minus_is_no_bang : l.Minus ≡ l.Bang → ⊥
-minus_is_no_bang e = cc
-
--- What an exact reader refuses at once begins nothing that is spelled.
-never_begins : {effort : Effort} {A : Type 0} {R C : Form A} {g : Test} (p : Reader A) → Exact effort Any R C g p
-    → (look : TokenLook) → ((s : State) → look_at s.rest ≡ look → p s ≡ refuse s) → (w : List Token) (x : A) → C w x → look_at w ≡ look → ⊥
-never_begins {effort = effort} p ep found refuses w x c is =
-    let s : State = record { before = l.Newline; rest = w; depth = 0; nodes = 0; height = 0; limited = false } in
-    let ends = ep.complete w x s [] tt c (sym (append-nil w)) refl in
-    (subst (λ o. Ends (Enough effort s) o x (last_from l.Newline w) [] false) (refuses s is) ends).0
 
 -- a line of the grammar, and what follows the first operand of one, from the relation of the constructs in it
 abbrev pub Line : Type 1
@@ -136,16 +96,15 @@ pub only_then : {A : Type 0} (b : Bool) (p : Reader A) (s : State) → let none 
 only_then true p s = refl
 only_then false p s = refl
 
-module _ {effort : Effort} {A : Type 0} {R C : Form A} {g : Test} {p : Reader A} (real : forms.Real R) (w0 : List Token) (x0 : A) (some : R w0 x0)
+module _ {effort : Effort} {A : Type 0} {R C : Form A} {g : Test} {p : Reader A} (real : Real R) (w0 : List Token) (x0 : A) (some : R w0 x0)
     (spaced : passes operations.is_spaced w0 ≡ true) (ep : Exact effort Any R C g p) where
   exact_guarded : (b : Bool) → Exact effort Any (forms.guarded b R) (forms.guarded b C) g (operations.no_sign b >> p)
   exact_guarded false = ep
   exact_guarded true =
-      let same : only operations.is_spaced p ≡ (only operations.is_spaced (pure tt) >> p) = λ i s. sym (only_then (passes operations.is_spaced s.rest) p s) i in
-      subst (λ q. Exact effort Any (forms.guarded true R) (forms.guarded true C) g q) same
+      exact_same (only operations.is_spaced p) (only operations.is_spaced (pure tt) >> p) (λ s. sym (only_then (passes operations.is_spaced s.rest) p s))
       (exact_only operations.is_spaced p
       (exact_passing (Passing operations.is_spaced) operations.is_spaced (λ ts is. is) real w0 x0 some spaced ep)
-      (λ w x rest c. first_passes operations.is_spaced w rest c.0) w0 x0 (spaced, some))
+      (λ w x rest c. passes_more operations.is_spaced w rest c.0) w0 x0 (spaced, some))
 
 module _ (effort : Effort) (rec : Wanted → Reader Tree) (S T : Wanted → Form Tree) (given : claims.Given effort rec S T) where
   -- ---- `!` and `-` before an operand
@@ -164,8 +123,8 @@ module _ (effort : Effort) (rec : Wanted → Reader Tree) (S T : Wanted → Form
         (λ x. exact_pure effort (make at x) (g.goes_operand free))
         (λ x. ([], make at x, (refl, refl)))
         (λ x b y rest d stop. rw d.0 stop)))
-        (λ at. let s = given.some (Unary within free) in (s.0, make at s.1, forms.nothing_in (S (Unary within free)) (make at) s.0 s.1 s.2))
-        (λ at b y rest d stop. stops_never (b ++ rest))
+        (λ at. let s = given.some (Unary within free) in (s.0, make at s.1, made_in (S (Unary within free)) (make at) s.0 s.1 s.2))
+        (λ at b y rest d stop. never_stops (b ++ rest))
 
     abbrev pub postfix : Reader Tree
     postfix = links.postfix effort.turns rec within free >>= λ x. pure (whole x)
@@ -195,13 +154,13 @@ module _ (effort : Effort) (rec : Wanted → Reader Tree) (S T : Wanted → Form
         exact_choose effort (seen l.Minus) (ex.unary_of S within free l.Minus negate) (ex.unary_of T within free l.Minus negate) (ex.postfix S within free) (ex.postfix T within free)
         (g.goes_operand free) (operations.unary_of effort.turns rec within free l.Minus negate) postfix
         (weaken _ (exact_prefix k.Minus negate)) (weaken _ (exact_postfix_tree effort rec S T given within free))
-        (λ w x rest c. word_heads l.Minus w c.0 c.1 rest c.2 c.3 c.4)
-        (λ w x rest d stop. begins_otherwise l.Minus w rest (postfix_some w x d) (not_minus w x d))
+        (led_heads l.Minus _)
+        (λ w x rest d stop. other_first l.Minus w rest (postfix_some w x d) (not_minus w x d))
 
     pub other_than_bang : (w : List Token) (x : Tree) (rest : List Token) → (ex.unary_of T within free l.Minus negate <|> ex.postfix T within free) w x → Stops (seen l.Bang) (w ++ rest)
     other_than_bang w x rest (inl c) =
-        begins_otherwise l.Bang w rest (forms.first_real T within free w x (inr (inl c))) (λ is. absurd (minus_is_no_bang (sym (word_leads l.Minus w c.0 c.1 c.2 c.3 c.4) ∙ is)))
-    other_than_bang w x rest (inr c) = begins_otherwise l.Bang w rest (postfix_some w x c) (not_bang w x c)
+        led_first false l.Minus (seen l.Bang) (not_seen l.Minus l.Bang (λ e. cc)) w rest (led_at l.Minus w c.0 c.1 c.2 c.3 c.4)
+    other_than_bang w x rest (inr c) = other_first l.Bang w rest (postfix_some w x c) (not_bang w x c)
 
   pub exact_unary : (within : Within) (free : Bool) → claims.UnaryTree effort rec S T within free
   exact_unary within free =
@@ -211,7 +170,7 @@ module _ (effort : Effort) (rec : Wanted → Reader Tree) (S T : Wanted → Form
       (g.goes_operand free) (operations.unary_of effort.turns rec within free l.Bang not_)
       (choose (seen l.Minus) (operations.unary_of effort.turns rec within free l.Minus (negate within free)) (postfix within free))
       (weaken _ (exact_prefix within free k.Bang not_)) (weaken _ (exact_signed within free))
-      (λ w x rest c. word_heads l.Bang w c.0 c.1 rest c.2 c.3 c.4)
+      (led_heads l.Bang _)
       (λ w x rest d stop. other_than_bang within free w x rest d)
 
   -- ---- an operator and its operand
@@ -226,9 +185,9 @@ module _ (effort : Effort) (rec : Wanted → Reader Tree) (S T : Wanted → Form
 
     -- A reader of operands, which are a line L of the grammar.
     pub record Operand (L : Line) (h : Test) (p : Reader Ended) : Type 0 where
-      exact : Exact effort Any (with_last (L S)) (with_last (L T)) h p
+      pub exact : Exact effort Any (with_last (L S)) (with_last (L T)) h p
       some : L S a_nil (tree.Nil 0)
-      real : forms.Real (L S)
+      real : Real (L S)
       pub begins : (w : List Token) (x : Tree) → L T w x → first_is (begins_or within) w ≡ true
 
     module _ (table : TokenLook → Option Binary) (L : Line) (h : Test) (p : Reader Ended) (operand : Operand L h p) (x : Ended) where
@@ -240,7 +199,7 @@ module _ (effort : Effort) (rec : Wanted → Reader Tree) (S T : Wanted → Form
 
       nil_behind : (found : Operator) → behind S found a_nil (node found nil_ended)
       nil_behind found =
-          ([], a_nil, tt, refl, ([], [], [], refl, refl, (refl, refl)), forms.nothing_in (with_last (L S)) (node found) a_nil nil_ended (operand.some, refl))
+          ([], a_nil, tt, refl, ([], [], [], refl, refl, (refl, refl)), made_in (with_last (L S)) (node found) a_nil nil_ended (operand.some, refl))
 
       exact_behind : (found : Operator) → Exact effort Any (behind S found) (behind T found) h (separators effort.turns >> (part p >>= λ y. pure (node found y)))
       exact_behind found =
@@ -249,14 +208,14 @@ module _ (effort : Effort) (rec : Wanted → Reader Tree) (S T : Wanted → Form
           (exact_separators effort)
           (λ _. exact_bind (λ y. nothing (node found y)) (λ y. nothing (node found y)) h (λ y. pure (node found y)) (exact_part p operand.exact)
           (λ y. exact_pure effort (node found y) h) (λ y. ([], node found y, (refl, refl))) (λ y b z rest d stop. rw d.0 stop))
-          (λ _. (a_nil, node found nil_ended, forms.nothing_in (with_last (L S)) (node found) a_nil nil_ended (operand.some, refl)))
-          (λ _ b z rest d stop. let n = forms.nothing_out (with_last (L T)) (node found) b z d in begins_no_line within b rest (operand.begins b n.0.0 n.1.0))
+          (λ _. (a_nil, node found nil_ended, made_in (with_last (L S)) (node found) a_nil nil_ended (operand.some, refl)))
+          (λ _ b z rest d stop. let n = made_out (with_last (L T)) (node found) b z d in tested false (begins_or within) (seen l.Newline) (look_apart (begins_or within) l.Newline refl) b rest (operand.begins b n.0.0 n.1.0))
 
       module _ (kind : TokenKind) (operator : Binary) (is : table (look_of kind) ≡ Some operator) where
         exact_operation : Exact effort Any (ex.operation S within free table (L S) x) (ex.operation T within free table (L T) x) h (operations.operation effort.turns rec within free table p x)
         exact_operation =
             exact_map (ex.operation S within free table (L S) x) (ex.operation T within free table (L T) x)
-            (forms.operation_in S within free table (L S) operand.real x) (forms.operation_out T within free table (L T) (λ w y c. forms.begins_some (begins_or within) w (operand.begins w y c)) x)
+            (forms.operation_in S within free table (L S) operand.real x) (forms.operation_out T within free table (L T) (λ w y c. begins_some (begins_or within) w (operand.begins w y c)) x)
             (exact_bind (λ found. forms.guarded (o.is_name x.1 && found.sign) (behind S found)) (λ found. forms.guarded (o.is_name x.1 && found.sign) (behind T found)) h
             (λ found. wrap found.at >> (operations.no_sign (o.is_name x.1 && found.sign) >> (separators effort.turns >> (part p >>= λ y. pure (node found y)))))
             (exact_take effort (λ t found. operator_of t (table (look_of t.kind)) ≡ Some found) never (λ t. operator_of t (table (look_of t.kind))) (λ t found e. e) (λ t found e. e)
@@ -264,7 +223,7 @@ module _ (effort : Effort) (rec : Wanted → Reader Tree) (S T : Wanted → Form
             (λ found. exact_silent (wrap found.at) (silent_wrap found.at) _
             (exact_guarded (forms.behind_real (L S) x operand.real found) a_nil (node found nil_ended) (nil_behind found) refl (exact_behind found) (o.is_name x.1 && found.sign)))
             (λ found. (a_nil, node found nil_ended, forms.guard_in (o.is_name x.1 && found.sign) (behind S found) a_nil (node found nil_ended) (λ _. refl) (nil_behind found)))
-            (λ found b y rest d stop. stops_never (b ++ rest)))
+            (λ found b y rest d stop. never_stops (b ++ rest)))
 
     -- operations of this table behind an operand, one time and again
     module _ (table : TokenLook → Option Binary) (kind : TokenKind) (operator : Binary) (is : table (look_of kind) ≡ Some operator)
@@ -279,7 +238,7 @@ module _ (effort : Effort) (rec : Wanted → Reader Tree) (S T : Wanted → Form
       operation_heads x w y rest c =
           let d = c.1 in
           let t = forms.operator_out T within free table d.0 d.2 d.4 in
-          first_passes (g.is_operator table) w rest
+          passes_more (g.is_operator table) w rest
           (ap (passes (g.is_operator table)) (d.3 ∙ ap (λ (v : List Token). v ++ d.1) t.2) ∙ ap is_some t.3)
 
       exact_chain : (x : Ended) → Exact effort Any (forms.chain S within free table (L S) x) (forms.chain T within free table (L T) x) (either (g.is_operator table) h)
@@ -289,10 +248,8 @@ module _ (effort : Effort) (rec : Wanted → Reader Tree) (S T : Wanted → Form
 
       pub chain_stops : (n : ℕ) (x : Ended) (w : List Token) (y : Ended) (rest : List Token) → repeated_of n (ex.operation T within free table (L T)) x w y
           → Stops (either (g.is_operator table) h) rest → Stops h (w ++ rest)
-      chain_stops zero x w y rest c stop = rw c.0 (stops_right (g.is_operator table) h rest stop)
-      chain_stops (suc n) x w y rest c stop =
-          let whole : w ++ rest ≡ c.0 ++ (c.1 ++ rest) = ap (λ (t : List Token). t ++ rest) c.3 ∙ append_assoc c.0 c.1 rest in
-          apart_stops (g.is_operator table) h apart (w ++ rest) (ap (passes (g.is_operator table)) whole ∙ operation_heads x c.0 c.2 (c.1 ++ rest) c.4)
+      chain_stops n x w y rest c stop =
+          repeated_stop h (ex.operation T within free table (L T)) (λ x. heads_halts (g.is_operator table) h _ (operation_heads x) apart) n x w y rest c (stops_right (g.is_operator table) h rest stop)
 
       exact_single : (x : Ended) → Exact effort Any (forms.at_most_one S within free table (L S) x) (forms.at_most_one T within free table (L T) x) (either (g.is_operator table) h)
           (choose (g.is_operator table) (one_more x) (pure x))
@@ -410,16 +367,16 @@ module _ (effort : Effort) (rec : Wanted → Reader Tree) (S T : Wanted → Form
     or_tree_exact x = exact_bind (λ y. nothing y.0) (λ y. nothing y.0) (g.goes_or free) (λ y. pure y.0) (or_level.exact x) (λ y. exact_pure effort y.0 (g.goes_or free))
         (λ y. ([], y.0, (refl, refl))) (λ y b z rest d stop. rw d.0 stop)
 
-    or_tree_out : (V : Wanted → Form Tree) → forms.Included (f.◌>>=◌ (with_last (ex.unary V within free)) (or_tree V)) (ex.or V within free)
+    or_tree_out : (V : Wanted → Form Tree) → Included (f.◌>>=◌ (with_last (ex.unary V within free)) (or_tree V)) (ex.or V within free)
     or_tree_out V w z c =
-        let n = forms.nothing_out (f.◌>>=◌ (with_last (ex.unary V within free)) (forms.or_rest V within free)) (λ y. y.0) w z
-        (forms.bind_in (with_last (ex.unary V within free)) (forms.or_rest V within free) (λ y. nothing y.0) w z c) in
+        let n = made_out (f.◌>>=◌ (with_last (ex.unary V within free)) (forms.or_rest V within free)) (λ y. y.0) w z
+        (bind_in (with_last (ex.unary V within free)) (forms.or_rest V within free) (λ y. nothing y.0) w z c) in
         subst (ex.or V within free w) (sym n.2) (forms.or_joins V within free w n.0 n.1).0
 
-    pub or_tree_back : (V : Wanted → Form Tree) → forms.Included (ex.or V within free) (f.◌>>=◌ (with_last (ex.unary V within free)) (or_tree V))
+    pub or_tree_back : (V : Wanted → Form Tree) → Included (ex.or V within free) (f.◌>>=◌ (with_last (ex.unary V within free)) (or_tree V))
     or_tree_back V w z c =
-        forms.bind_out (with_last (ex.unary V within free)) (forms.or_rest V within free) (λ y. nothing y.0) w z
-        (forms.nothing_in (f.◌>>=◌ (with_last (ex.unary V within free)) (forms.or_rest V within free)) (λ y. y.0) w (z, last_look w) (forms.or_splits V within free w z c))
+        bind_out (with_last (ex.unary V within free)) (forms.or_rest V within free) (λ y. nothing y.0) w z
+        (made_in (f.◌>>=◌ (with_last (ex.unary V within free)) (forms.or_rest V within free)) (λ y. y.0) w (z, last_look w) (forms.or_splits V within free w z c))
 
   -- What follows the first operand of an `or` is read exactly.
   pub exact_or_from : (within : Within) (free : Bool) (x : Ended)
@@ -436,5 +393,5 @@ module _ (effort : Effort) (rec : Wanted → Reader Tree) (S T : Wanted → Form
       exact_map (ex.or S within free) (ex.or T within free) (or_tree_out within free S) (or_tree_back within free T)
       (exact_bind (or_tree within free S) (or_tree within free T) (g.goes_or free) (λ x. operations.or_from effort.turns rec within free x >>= λ y. pure y.0)
       (exact_first within free) (or_tree_exact within free)
-      (λ x. ([], x.0, forms.nothing_in (forms.or_rest S within free x) (λ y. y.0) [] x (forms.or_rest_none S within free x)))
-      (λ x b z rest d stop. let n = forms.nothing_out (forms.or_rest T within free x) (λ y. y.0) b z d in or_rest_stops within free x b n.0 rest n.1 stop))
+      (λ x. ([], x.0, made_in (forms.or_rest S within free x) (λ y. y.0) [] x (forms.or_rest_none S within free x)))
+      (λ x b z rest d stop. let n = made_out (forms.or_rest T within free x) (λ y. y.0) b z d in or_rest_stops within free x b n.0 rest n.1 stop))

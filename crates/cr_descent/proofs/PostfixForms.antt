@@ -7,75 +7,21 @@ use Rattle.std.proofs.lemmas.Slice.Eq.{bytes_eq-Decides}
 use Rattle.cr_syntax.specs.declared.look.TokenLook.{TokenLook}
 use Rattle.cr_syntax.specs.declared.look.TokenLook.TheVariants as l
 use Rattle.cr_syntax.specs.declared.token.Token.{Token}
-use Rattle.cr_syntax.specs.declared.token.TokenKind.{TokenKind}
 use Rattle.cr_syntax.specs.declared.token.TokenKind.TheVariants as k
 use Rattle.cr_syntax.specs.Look.{look_of}
 use Rattle.cr_grammar.specs.declared.tree.Tree.{Tree}
 use Rattle.cr_grammar.specs.declared.tree.Tree.TheVariants as tree
 use Rattle.cr_grammar.specs.declared.within.Within.{Within}
-use Rattle.cr_grammar.specs.Forms.{Form, nothing, ◌>>=◌, ◌>>◌, maybe, or_none, repeated_of, word, Word, holding, ident, tight, parenthesized, comma, listed, many}
+use Rattle.cr_grammar.specs.Forms.{Form, ◌>>◌, maybe, or_none, repeated_of, word, Word, ident, tight, parenthesized, listed}
 use Rattle.cr_grammar.specs.Operators as names
 use Rattle.cr_grammar.specs.Wanted.{Wanted, Or}
 use Rattle.cr_grammar.specs.Expressions as ex
-use Rattle.cr_exact.proofs.Tokens.{Led}
 use Rattle.cr_descent.specs.Operand.{Operand, Name, Field, Element, Variable, Yielding, Above, Passing, Whole, whole, named, linked, indexed, yielded, above}
 use Rattle.cr_descent.specs.Primaries.{listed_of}
-use Rattle.cr_descent.proofs.Lists.{alone}
-use Rattle.cr_descent.proofs.Begins.{led_at}
+use Rattle.cr_exact.proofs.Tokens.{Led}
+use Rattle.cr_exact.proofs.Forms.{last_turn, turn_more, all_read, made_in, parenthesized_map, listed_one, one_listed, made_out}
+use Rattle.cr_exact.proofs.Heads.{led_at, led_kind, led_held_at}
 use Rattle.cr_descent.proofs.Operands as operands
-
--- ---- turns, seen from the last
-
--- the turns but the last, and the last
-pub last_turn : {A : Type 0} (R : A → Form A) (n : ℕ) (x : A) (w : List Token) (y : A) → repeated_of (suc n) R x w y
-    → (u : List Token) × (v : List Token) × (z : A) × (w ≡ u ++ v) × repeated_of n R x u z × R z v y
-last_turn R zero x w y c =
-    let same : w ≡ c.0 = c.3 ∙ ap (λ (t : List Token). c.0 ++ t) c.5.0 ∙ append-nil c.0 in
-    ([], w, x, refl, (refl, refl), subst (λ t. R x t y) (sym same) (subst (λ v. R x c.0 v) (sym c.5.1) c.4))
-last_turn R (suc n) x w y c =
-    let r = last_turn R n c.2 c.1 y c.5 in
-    (c.0 ++ r.0, r.1, r.2, c.3 ∙ ap (λ (t : List Token). c.0 ++ t) r.3 ∙ sym (append_assoc c.0 r.0 r.1), (c.0, r.0, c.2, refl, c.4, r.4), r.5)
-
--- one turn more
-pub one_more : {A : Type 0} (R : A → Form A) (n : ℕ) (x z : A) (u v : List Token) (y : A) → repeated_of n R x u z → R z v y → repeated_of (suc n) R x (u ++ v) y
-one_more R zero x z u v y c r =
-    (v, [], y, ap (λ (t : List Token). t ++ v) c.0 ∙ sym (append-nil v), subst (λ t. R t v y) c.1 r, (refl, refl))
-one_more R (suc n) x z u v y c r =
-    (c.0, c.1 ++ v, c.2, ap (λ (t : List Token). t ++ v) c.3 ∙ append_assoc c.0 c.1 v, c.4, one_more R n c.2 z c.1 v y c.5 r)
-
--- ---- what ends with nothing
-
-pub all_read : (w a b : List Token) → w ≡ a ++ b → b ≡ [] → w ≡ a
-all_read w a b e none = e ∙ ap (λ (t : List Token). a ++ t) none ∙ append-nil a
-
--- R and what is made of it
-pub made_back : {A B : Type 0} (R : Form A) (make : A → B) (w : List Token) (x : A) → R w x → (R >>= λ y. nothing (make y)) w (make x)
-made_back R make w x r = (w, [], x, sym (append-nil w), r, (refl, refl))
-
--- ---- first tokens
-
-pub led_kind : (kind : TokenKind) (w a b : List Token) (t : Token) → w ≡ a ++ b → a ≡ t ∷ [] → t.kind ≡ kind → Led (look_of kind) w
-led_kind kind w a b t e one is = (t, b, e ∙ ap (λ (s : List Token). s ++ b) one, ap look_of is)
-
--- ---- parentheses round another form
-
-pub parenthesized_map : {A B : Type 0} (R : Form A) (Q : Form B) (w : List Token) (x : A) (y : B)
-    → ((v : List Token) (z : A) → x ≡ z → R v z → Q v y) → parenthesized R w x → parenthesized Q w y
-parenthesized_map R Q w x y f (a, b, at, e, r, (a', b', u, e', s, (a'', b'', z, e'', m, (a3, b3, u3, e3, s3, (a4, b4, at4, e4, r4, (none, same)))))) =
-    (a, b, at, e, r, (a', b', u, e', s, (a'', b'', y, e'', f a'' z same m, (a3, b3, u3, e3, s3, (a4, b4, at4, e4, r4, (none, refl))))))
-
--- a list of one is that one
-same_head : {A : Type 0} (x y : A) (xs ys : List A) → x ∷ xs ≡ y ∷ ys → (x ≡ y) × (xs ≡ ys)
-same_head x y xs ys e = (cc, cc)
-
-pub listed_one : {A : Type 0} (R : Form A) (w : List Token) (x : A) → listed R w (x ∷ []) → R w x
-listed_one R w x (a, b, y, e, r, (a', b', ys, e', m, (none, same))) =
-    let is = same_head x y [] ys same in
-    let empty : a' ≡ [] = subst (λ v. many (comma >> R) a' v) (sym is.1) m in
-    subst (λ t. R t x) (sym (all_read w a b e (all_read b a' b' e' none ∙ empty))) (subst (λ v. R a v) (sym is.0) r)
-
-pub one_listed : {A : Type 0} (R : Form A) (w : List Token) (x : A) → R w x → listed R w (x ∷ [])
-one_listed R w x r = (w, [], x, sym (append-nil w), r, ([], [], [], refl, refl, (refl, refl)))
 
 -- ---- arguments, and the trees of what they follow
 
@@ -106,11 +52,11 @@ module _ (S : Wanted → Form Tree) (within : Within) (free : Bool) where
   abbrev Arguments : Form (Option (List Tree))
   Arguments = operands.arguments S within free
 
-  arguments_list : (w : List Token) (arguments : Option (List Tree)) → Arguments w arguments → ex.arguments S within free w (listed_of arguments)
+  pub arguments_list : (w : List Token) (arguments : Option (List Tree)) → Arguments w arguments → ex.arguments S within free w (listed_of arguments)
   arguments_list w None c = inr (c, refl)
   arguments_list w (Some arguments) c = inl c
 
-  list_arguments : (w : List Token) (xs : List Tree) → ex.arguments S within free w xs → (arguments : Option (List Tree)) × Arguments w arguments × (xs ≡ listed_of arguments)
+  pub list_arguments : (w : List Token) (xs : List Tree) → ex.arguments S within free w xs → (arguments : Option (List Tree)) × Arguments w arguments × (xs ≡ listed_of arguments)
   list_arguments w xs (inl c) = (Some xs, c, refl)
   list_arguments w xs (inr c) = (None, c.0, c.1)
 
@@ -151,7 +97,7 @@ module _ (S : Wanted → Form Tree) (within : Within) (free : Bool) where
 
   -- what is a tree and no more
   plain_tree : (R : Form Tree) (w : List Token) (o : Operand) → operands.all_of S within free R w o → R w (whole o)
-  plain_tree R w o c = let r = alone R (λ x. Whole x) w o c in subst (λ v. R w v) (sym (ap whole r.2)) r.1
+  plain_tree R w o c = let r = made_out R (λ x. Whole x) w o c in subst (λ v. R w v) (sym (ap whole r.2)) r.1
 
   tree_of_by : (look : TokenLook) (w : List Token) (o : Operand) → operands.primary_by S within free look w o → ex.primary S within free w (whole o)
   tree_of_by l.Int32 w o c = inl (plain_tree _ w o c)
@@ -191,7 +137,7 @@ module _ (S : Wanted → Form Tree) (within : Within) (free : Bool) where
 
   plain_of : (R : Form Tree) (look : TokenLook) (w : List Token) (x : Tree) → Led look w → (operands.all_of S within free R w (Whole x) → operands.primary_by S within free look w (Whole x)) → R w x
       → Of (operands.primary S within free) w x
-  plain_of R look w x led into r = (Whole x, (look, led, into (made_back R (λ y. Whole y) w x r)), refl)
+  plain_of R look w x led into r = (Whole x, (look, led, into (made_in R (λ y. Whole y) w x r)), refl)
 
   by_look : (R : Form Operand) (look : TokenLook) (w : List Token) (x : Tree) → Led look w → ((o : Operand) → R w o → operands.primary_by S within free look w o) → Of R w x → Of (operands.primary S within free) w x
   by_look R look w x led into r = (r.0, (look, led, into r.0 r.1), r.2)
@@ -200,12 +146,9 @@ module _ (S : Wanted → Form Tree) (within : Within) (free : Bool) where
   number_of w x (t, e, inl q) = plain_of _ l.Int32 w x (t, [], e, ap look_of q.1) (λ c. c) (t, e, inl q)
   number_of w x (t, e, inr q) = plain_of _ l.Int64 w x (t, [], e, ap look_of q.1) (λ c. c) (t, e, inr q)
 
-  led_held : (kind : List ℕ → TokenKind) (w a b : List Token) (name : Word) → w ≡ a ++ b → holding kind a name → Led (look_of (kind name.text)) w
-  led_held kind w a b name e r = led_kind (kind name.text) w a b r.0 e r.1 r.2.0
-
   text_of : (w : List Token) (x : Tree) → ex.text S within free w x → Of (operands.primary S within free) w x
-  text_of w x (inl r) = plain_of _ l.Text w x (led_held (λ text. k.Text text) w r.0 r.1 r.2 r.3 r.4) (λ c. c) (inl r)
-  text_of w x (inr r) = plain_of _ l.TextFirst w x (led_held (λ text. k.TextFirst text) w r.0 r.1 r.2 r.3 r.4) (λ c. c) (inr r)
+  text_of w x (inl r) = plain_of _ l.Text w x (led_held_at (λ text. k.Text text) w r.0 r.1 r.2 r.3 r.4) (λ c. c) (inl r)
+  text_of w x (inr r) = plain_of _ l.TextFirst w x (led_held_at (λ text. k.TextFirst text) w r.0 r.1 r.2 r.3 r.4) (λ c. c) (inr r)
 
   constant_of : (w : List Token) (x : Tree) → ex.constants S within free w x → Of (operands.primary S within free) w x
   constant_of w x (inl r) = plain_of _ l.Nil w x (led_at l.Nil w r.0 r.1 r.2 r.3 r.4) (λ c. c) r
@@ -214,12 +157,12 @@ module _ (S : Wanted → Form Tree) (within : Within) (free : Bool) where
 
   field_of : (w : List Token) (x : Tree) → ex.field S within free w x → Of (operands.primary S within free) w x
   field_of w x (is, (a, b, name, e, r, (none, same))) =
-      (Variable name, (l.InstanceVariable, led_held (λ text. k.InstanceVariable text) w a b name e r, (is, (a, b, name, e, r, (none, refl)))), sym same)
+      (Variable name, (l.InstanceVariable, led_held_at (λ text. k.InstanceVariable text) w a b name e r, (is, (a, b, name, e, r, (none, refl)))), sym same)
 
   made_of : (w : List Token) (x : Tree) → ex.made S within free w x → Of (operands.primary S within free) w x
   made_of w x r = plain_of _ l.Constant w x (atom_led w r.0 r.1 r.2 r.3 r.4) (λ c. c) (inl r) where
     path_led : (w a b : List Token) (p : ex.Path) → w ≡ a ++ b → ex.path a p → Led l.Constant w
-    path_led w a b p e q = led_held (λ text. k.Constant text) w q.0 (q.1 ++ b) q.2 (e ∙ ap (λ (t : List Token). t ++ b) q.3 ∙ append_assoc q.0 q.1 b) q.4
+    path_led w a b p e q = led_held_at (λ text. k.Constant text) w q.0 (q.1 ++ b) q.2 (e ∙ ap (λ (t : List Token). t ++ b) q.3 ∙ append_assoc q.0 q.1 b) q.4
 
     atom_led : (w a b : List Token) (c : ex.Atom) → w ≡ a ++ b → ex.atom S true a c → Led l.Constant w
     atom_led w a b c e q = path_led w q.0 (q.1 ++ b) q.2 (e ∙ ap (λ (t : List Token). t ++ b) q.3 ∙ append_assoc q.0 q.1 b) q.4
@@ -230,7 +173,7 @@ module _ (S : Wanted → Form Tree) (within : Within) (free : Bool) where
   tree_primary w x (inr (inr (inl r))) = constant_of w x r
   tree_primary w x (inr (inr (inr (inl (is, r))))) = plain_of _ l.KeywordSelf w x (led_at l.KeywordSelf w r.0 r.1 r.2 r.3 r.4) (λ c. (is, c)) r
   tree_primary w x (inr (inr (inr (inr (inl r))))) = field_of w x r
-  tree_primary w x (inr (inr (inr (inr (inr (inl r)))))) = by_look (operands.name S within free) l.Ident w x (led_held (λ text. k.Ident text) w r.0 r.1 r.2 r.3 r.4) (λ o c. c) (tree_named w x r)
+  tree_primary w x (inr (inr (inr (inr (inr (inl r)))))) = by_look (operands.name S within free) l.Ident w x (led_held_at (λ text. k.Ident text) w r.0 r.1 r.2 r.3 r.4) (λ o c. c) (tree_named w x r)
   tree_primary w x (inr (inr (inr (inr (inr (inr (inl (is, inl r)))))))) = by_look (operands.passed_on S within free l.Yield yielded) l.Yield w x (led_at l.Yield w r.0 r.1 r.2 r.3 r.4) (λ o c. (is, c)) (tree_yielded w x r)
   tree_primary w x (inr (inr (inr (inr (inr (inr (inl (is, inr (inl r))))))))) =
       by_look (operands.passed_on S within free l.Super above) l.Super w x (led_at l.Super w r.0 r.1 r.2 r.3 r.4) (λ o c. (is, c)) (tree_above w x (inl r))
@@ -284,9 +227,9 @@ module _ (S : Wanted → Form Tree) (within : Within) (free : Bool) where
   pub tree_link : (z : Operand) (w : List Token) (x : Tree) → ex.link S within free (whole z) w x → Of (Link z) w x
   tree_link z w x (inl c) = let r = tree_called (whole z) w x c in (r.0, inl r.1, r.2)
   tree_link z w x (inr (inl c)) = let r = tree_indexed (whole z) w x c in (r.0, inr (inl r.1), r.2)
-  tree_link z w x (inr (inr (inl c))) = (Whole x, inr (inr (inl (made_back _ (λ y. Whole y) w x c))), refl)
-  tree_link z w x (inr (inr (inr (inl c)))) = (Whole x, inr (inr (inr (inl (made_back _ (λ y. Whole y) w x c)))), refl)
-  tree_link z w x (inr (inr (inr (inr c)))) = (Whole x, inr (inr (inr (inr (made_back _ (λ y. Whole y) w x c)))), refl)
+  tree_link z w x (inr (inr (inl c))) = (Whole x, inr (inr (inl (made_in _ (λ y. Whole y) w x c))), refl)
+  tree_link z w x (inr (inr (inr (inl c)))) = (Whole x, inr (inr (inr (inl (made_in _ (λ y. Whole y) w x c)))), refl)
+  tree_link z w x (inr (inr (inr (inr c)))) = (Whole x, inr (inr (inr (inr (made_in _ (λ y. Whole y) w x c)))), refl)
 
   -- ---- the whole
 
@@ -313,10 +256,10 @@ module _ (S : Wanted → Form Tree) (within : Within) (free : Bool) where
   -- a link more
   pub postfix_more : (u v : List Token) (z o : Operand) → operands.postfix S within free u z → Link z v o → operands.postfix S within free (u ++ v) o
   postfix_more u v z o c r =
-      (c.0, c.1 ++ v, c.2, ap (λ (t : List Token). t ++ v) c.3 ∙ append_assoc c.0 c.1 v, c.4, (suc c.5.0, one_more Link c.5.0 c.2 z c.1 v o c.5.1 r))
+      (c.0, c.1 ++ v, c.2, ap (λ (t : List Token). t ++ v) c.3 ∙ append_assoc c.0 c.1 v, c.4, (suc c.5.0, turn_more Link c.5.0 c.2 z c.1 v o c.5.1 r))
 
-  -- a head alone, or a last link
-  abbrev pub Last : List Token → Operand → Type 0
+  -- a head made_out, or a last link
+  abbrev Last : List Token → Operand → Type 0
   Last w o = (u : List Token) × (v : List Token) × (z : Operand) × (w ≡ u ++ v) × operands.postfix S within free u z × Link z v o
 
   pub last_link : (w : List Token) (o : Operand) → operands.postfix S within free w o → operands.primary S within free w o ⊎ Last w o
@@ -328,8 +271,8 @@ module _ (S : Wanted → Form Tree) (within : Within) (free : Bool) where
 
   -- ---- which operands are spelled how
 
-  -- what is neither a name alone nor ends with a link that tells
-  abbrev pub is_other : Operand → Bool
+  -- what is neither a name made_out nor ends with a link that tells
+  abbrev is_other : Operand → Bool
   is_other (Variable name) = true
   is_other (Yielding at) = true
   is_other (Above at) = true
@@ -466,7 +409,7 @@ module _ (S : Wanted → Form Tree) (within : Within) (free : Bool) where
   link_no_name z w found (inr (inr (inr (inl c)))) = let e = c.5.1 in absurd cc
   link_no_name z w found (inr (inr (inr (inr c)))) = let e = c.5.1 in absurd cc
 
-  -- ---- a name alone
+  -- ---- a name made_out
 
   bare_ident : (w : List Token) (name : Word) → operands.name S within free w (Name name) → ident w name
   bare_ident w name (a, b, found, e, r, (a', b', arguments, e', m, (a3, b3, block, e3, q, (none, same)))) =
@@ -491,7 +434,7 @@ module _ (S : Wanted → Form Tree) (within : Within) (free : Bool) where
     [],
     Name name,
     sym (append-nil w),
-    (l.Ident, led_held (λ text. k.Ident text) w w [] name (sym (append-nil w)) r, (w, [], name, sym (append-nil w), r, ([], [], None, refl, refl, ([], [], None, refl, refl, (refl, refl))))),
+    (l.Ident, led_held_at (λ text. k.Ident text) w w [] name (sym (append-nil w)) r, (w, [], name, sym (append-nil w), r, ([], [], None, refl, refl, ([], [], None, refl, refl, (refl, refl))))),
     (0, (refl, refl)),
   )
 

@@ -12,7 +12,7 @@ use Rattle.cr_grammar.specs.declared.operator.Assignment.{Assignment}
 use Rattle.cr_grammar.specs.declared.tree.Tree.{Tree}
 use Rattle.cr_grammar.specs.declared.tree.Tree.TheVariants as tree
 use Rattle.cr_grammar.specs.declared.within.Within.{Within}
-use Rattle.cr_grammar.specs.Forms.{Form, nothing, ◌<|>◌, where_true, passing, maybe, from_first, place_of, word, with_last}
+use Rattle.cr_grammar.specs.Forms.{Form, nothing, ◌<|>◌, passing, maybe, from_first, word, with_last}
 use Rattle.cr_grammar.specs.Forms as f
 use Rattle.cr_grammar.specs.Operators as o
 use Rattle.cr_grammar.specs.Wanted.{Wanted, Or}
@@ -20,27 +20,28 @@ use Rattle.cr_grammar.specs.Laws.{first_is, begins_or}
 use Rattle.cr_grammar.specs.Expressions as ex
 use Rattle.cr_grammar.specs.Grammar as gr
 use Rattle.cr_grammar.proofs.Derive as derive
-use Rattle.cr_exact.specs.Reader.{Reader, Test, passes, same_look, seen, either, never, choose, allow, ◌>>=◌, ◌>>◌, pure, grow, wrap, part}
+use Rattle.cr_exact.specs.Reader.{Reader, Test, passes, same_look, seen, either, never, choose, ◌>>=◌, ◌>>◌, pure, grow, wrap, part}
 use Rattle.cr_exact.specs.Lists.{optional}
 use Rattle.cr_exact.specs.Exact.{Stops, Effort, Exact, Any}
-use Rattle.cr_exact.proofs.Sequence.{exact_bind, exact_pure, exact_map, exact_goes, weaken}
-use Rattle.cr_exact.proofs.Tokens.{Passing as NextPasses, Looks, Branch, Led, exact_word, exact_choose, exact_by, clash}
-use Rattle.cr_exact.proofs.Nodes.{exact_silent, silent_grow, silent_wrap, exact_part, exact_last}
-use Rattle.cr_exact.proofs.Places.{exact_here}
 use Rattle.cr_descent.specs.Goes as g
 use Rattle.cr_descent.specs.Operand.{Operand, Name, Field, Element, Variable, Yielding, Above, Passing, Whole, whole}
 use Rattle.cr_descent.specs.Operations as operations
 use Rattle.cr_descent.specs.Statements as statements
-use Rattle.cr_descent.proofs.Lists.{exact_passing, exact_optional_where, never_stops, not_seen}
-use Rattle.cr_descent.proofs.Begins.{Less, Follows, led_at, led_real, led_seen, led_stops, stops_less, follows_nothing, spelled_nothing}
-use Rattle.cr_descent.proofs.PostfixForms.{made_back}
-use Rattle.cr_descent.proofs.OperationForms.{nothing_out as made_out}
-use Rattle.cr_descent.proofs.OperationForms.{or_rest, or_rest_none, level_begins, or_level, begins_some}
+use Rattle.cr_exact.proofs.TokenTests.{never_stops, not_seen, Less, stops_less, both_true}
+use Rattle.cr_exact.proofs.Sequence.{exact_bind, exact_pure, exact_map, exact_goes, weaken}
+use Rattle.cr_exact.proofs.Tokens.{Passing as NextPasses, Branch, Led, exact_word, exact_choose, exact_by, branch_where}
+use Rattle.cr_exact.proofs.Forms.{spelled_nothing, made_in, made_out, begins_some, append_none}
+use Rattle.cr_exact.proofs.Heads.{led_at, led_real, led_seen, led_first}
+use Rattle.cr_exact.proofs.Follows.{Follows, follows_nothing}
+use Rattle.cr_exact.proofs.Nodes.{exact_silent, silent_grow, silent_wrap, exact_part, exact_last}
+use Rattle.cr_exact.proofs.Places.{exact_here}
+use Rattle.cr_exact.proofs.Lists.{exact_passing, exact_optional_where}
+use Rattle.cr_descent.proofs.OperationForms.{or_rest, or_rest_none, level_begins, or_level}
 use Rattle.cr_descent.proofs.Operations.{exact_or, or_rest_stops}
 use Rattle.cr_descent.proofs.Links.{exact_postfix}
 use Rattle.cr_descent.proofs.StatementForms as forms
 use Rattle.cr_descent.proofs.Claims as claims
-use Rattle.cr_descent.proofs.Commands.{Settled, tight_nil, spaced_nil}
+use Rattle.cr_exact.proofs.TwoTokens.{Settled, tight_nil, spaced_nil}
 use Rattle.cr_descent.proofs.Statements.{simple_or, argument_begins, assignment_other, field_is_any, exact_behind}
 
 -- What ends a statement ends one without modifier.
@@ -85,22 +86,8 @@ simple_value turns rec within l.When spaced e = refl
 simple_value turns rec within l.End spaced e = refl
 simple_value turns rec within _ spaced e = absurd cc
 
-and_right : (a b : Bool) → a && b ≡ true → b ≡ true
-and_right true b e = e
-and_right false b e = absurd cc
-
 and_both : (a b : Bool) → a ≡ true → b ≡ true → a && b ≡ true
 and_both a b e h = rw (e, h) refl
-
-front_none : (a b : List Token) → a ++ b ≡ [] → a ≡ []
-front_none [] b e = refl
-front_none (t ∷ a) b e = absurd cc
-
--- where a condition holds, and only there
-branch_where : {effort : Effort} {A : Type 0} (look : TokenLook) (b : Bool) (R C : Form A) (g : Test) (p : Reader A)
-    → (b ≡ true → Exact effort (Looks look) R C g p) → Branch effort look R (where_true b C) g (allow b p)
-branch_where _ true R C g p e = let is = e refl in inl (record { found = is.found; refused = is.refused; complete = λ w x s rest pre c. is.complete w x s rest pre c.1 })
-branch_where _ false R C g p e = inr (refl, λ w x led c. clash refl c.0)
 
 module _ (effort : Effort) (sure : Type 0) (rec : Wanted → Reader Tree) (S T U : Wanted → Form Tree) (given : claims.Given effort rec S T)
     (other : claims.Given (record { deep = sure; turns = effort.turns }) rec S U) (within : Within)
@@ -119,7 +106,7 @@ module _ (effort : Effort) (sure : Type 0) (rec : Wanted → Reader Tree) (S T U
   postfix_real Q apart w x p = begins_some forms.is_postfix_look w (apart.begins w (whole x) (apart.tree_of w x p))
 
   pub at_real : (Q : Wanted → Form Tree) → forms.Apart Q within → (at : ℕ) (w : List Token) (x : Tree) → At Q at w x → w ≡ [] → ⊥
-  at_real Q apart at w x c none = postfix_real Q apart c.0 c.2.0 c.4.0 (front_none c.0 c.1 (sym c.3 ∙ none))
+  at_real Q apart at w x c none = postfix_real Q apart c.0 c.2.0 c.4.0 (append_none c.0 c.1 (sym c.3 ∙ none)).0
 
   -- the same assignment, at another place
   assigned_moves : (at there : ℕ) (target : Tree) (table : TokenLook → Option Assignment) (w : List Token) (y : Tree) → forms.assigned_rest S within at target table w y
@@ -184,7 +171,7 @@ module _ (effort : Effort) (sure : Type 0) (rec : Wanted → Reader Tree) (S T U
         [],
         whole x.0,
         forms.operated_behind S within at x.0 x.1 [] (whole x.0)
-            (made_back (or_rest S within true (whole x.0, forms.seen_of x.0 x.1)) (λ (v : Tree × TokenLook). v.0) [] (whole x.0, forms.seen_of x.0 x.1) (or_rest_none S within true (whole x.0, forms.seen_of x.0 x.1))),
+            (made_in (or_rest S within true (whole x.0, forms.seen_of x.0 x.1)) (λ (v : Tree × TokenLook). v.0) [] (whole x.0, forms.seen_of x.0 x.1) (or_rest_none S within true (whole x.0, forms.seen_of x.0 x.1))),
       ))
       (behind_follows at))
       (at_real S apart_s) (at_real T apart_t)
@@ -203,7 +190,7 @@ module _ (effort : Effort) (sure : Type 0) (rec : Wanted → Reader Tree) (S T U
 
   no_modifier_out : (w : List Token) → passes BeginsValue w ≡ true → o.begins_no_modifier w ≡ true
   no_modifier_out [] is = absurd cc
-  no_modifier_out (t ∷ w) is = and_right (begins_or within (look_of t.kind)) _ is
+  no_modifier_out (t ∷ w) is = (both_true (begins_or within (look_of t.kind)) _ is).1
 
   pub no_modifier_back : (w rest : List Token) → first_is (begins_or within) w ≡ true → o.begins_no_modifier w ≡ true → passes BeginsValue (w ++ rest) ≡ true
   no_modifier_back [] rest begins is = absurd cc
@@ -298,11 +285,11 @@ module _ (effort : Effort) (sure : Type 0) (rec : Wanted → Reader Tree) (S T U
       (λ place. exact_silent (wrap place) (silent_wrap place) _
       (exact_bind (λ c. nothing (make c)) (λ c. nothing (make c)) g.goes_stmt (λ c. pure (make c)) (exact_part _ exact_simple)
       (λ c. exact_pure effort (make c) g.goes_stmt) (λ c. spelled_nothing (make c)) (λ c. follows_nothing g.goes_simple g.goes_stmt (make c) stmt_simple)))
-      (λ place. (tight_nil ∷ [], make (tree.Nil 0), made_back (gr.simple S within) make (tight_nil ∷ []) (tree.Nil 0) (inr (inr (inr (nil_or S))))))
+      (λ place. (tight_nil ∷ [], make (tree.Nil 0), made_in (gr.simple S within) make (tight_nil ∷ []) (tree.Nil 0) (inr (inr (inr (nil_or S))))))
       (λ place b y rest d stop. never_stops (b ++ rest))
 
   pub no_if : (at : ℕ) (x : Tree) (w : List Token) (y : Tree) (rest : List Token) → (Modified T at x l.Unless true <|> nothing x) w y → Stops g.goes_stmt rest → passes (seen l.If) (w ++ rest) ≡ false
-  no_if at x w y rest (inl c) stop = led_stops l.Unless (seen l.If) (not_seen l.Unless l.If (λ e. cc)) w rest (modified_led at x l.Unless true w y c)
+  no_if at x w y rest (inl c) stop = led_first false l.Unless (seen l.If) (not_seen l.Unless l.If (λ e. cc)) w rest (modified_led at x l.Unless true w y c)
   no_if at x w y rest (inr d) stop = rw d.0 (stops_less (seen l.If) g.goes_stmt (λ look spaced e. (stmt_modifier look spaced e).0) rest stop)
 
   exact_tail : (at : ℕ) (x : Tree) → Exact effort Any (Tail S at x) (Tail T at x) g.goes_stmt
@@ -318,15 +305,15 @@ module _ (effort : Effort) (sure : Type 0) (rec : Wanted → Reader Tree) (S T U
       (no_if at x)
 
   pub tail_follows : (at : ℕ) (x : Tree) → Follows g.goes_simple (Tail T at x) g.goes_stmt
-  tail_follows at x w y rest (inl c) stop = led_stops l.If g.goes_simple (λ spaced. refl) w rest (modified_led at x l.If false w y c)
-  tail_follows at x w y rest (inr (inl c)) stop = led_stops l.Unless g.goes_simple (λ spaced. refl) w rest (modified_led at x l.Unless true w y c)
+  tail_follows at x w y rest (inl c) stop = led_first false l.If g.goes_simple (λ spaced. refl) w rest (modified_led at x l.If false w y c)
+  tail_follows at x w y rest (inr (inl c)) stop = led_first false l.Unless g.goes_simple (λ spaced. refl) w rest (modified_led at x l.Unless true w y c)
   tail_follows at x w y rest (inr (inr d)) stop = rw d.0 (stops_less g.goes_simple g.goes_stmt stmt_simple rest stop)
 
   simple_real : (Q : Wanted → Form Tree) → forms.Apart Q within → ((w : List Token) (x : Tree) → Q (Or within false) w x → Settled w) → (w : List Token) (x : Tree) → gr.simple Q within w x → w ≡ [] → ⊥
   simple_real Q apart settled w x c = let by = forms.simple_in Q within apart settled w x c in led_real by.0 w by.1
 
   pub whole_real : (Q : Wanted → Form Tree) → forms.Apart Q within → ((w : List Token) (x : Tree) → Q (Or within false) w x → Settled w) → (at : ℕ) (w : List Token) (x : Tree) → Whole_at Q at w x → w ≡ [] → ⊥
-  whole_real Q apart settled at w x c none = simple_real Q apart settled c.0 c.2 c.4 (front_none c.0 c.1 (sym c.3 ∙ none))
+  whole_real Q apart settled at w x c none = simple_real Q apart settled c.0 c.2 c.4 (append_none c.0 c.1 (sym c.3 ∙ none)).0
 
   modified_moves : (at there : ℕ) (x : Tree) (look : TokenLook) (unless : Bool) (w : List Token) (y : Tree) → Modified S at x look unless w y → (z : Tree) × Modified S there x look unless w z
   modified_moves at there x look unless w y c =

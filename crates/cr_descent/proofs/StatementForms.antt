@@ -15,13 +15,14 @@ use Rattle.cr_grammar.specs.Wanted.{Wanted, Or, Simple, in_object}
 use Rattle.cr_grammar.specs.Laws.{first_is}
 use Rattle.cr_grammar.specs.Expressions as ex
 use Rattle.cr_grammar.specs.Grammar as gr
-use Rattle.cr_exact.proofs.Tokens.{Led, by_first}
+use Rattle.cr_grammar.proofs.First as first
 use Rattle.cr_descent.specs.Operand.{Operand, Name, Field, Element, Variable, Yielding, Above, Passing, Whole, whole}
+use Rattle.cr_exact.proofs.Tokens.{by_first}
+use Rattle.cr_exact.proofs.Forms.{made_in, made_out, last_behind, one_real}
+use Rattle.cr_exact.proofs.Heads.{led_at}
 use Rattle.cr_descent.proofs.Operands as operands
 use Rattle.cr_descent.proofs.OperationForms.{or_rest, or_splits, or_joins}
-use Rattle.cr_descent.proofs.PostfixForms.{made_back}
-use Rattle.cr_descent.proofs.OperationForms.{nothing_out as made_out}
-use Rattle.cr_descent.proofs.Commands.{Settled, settled_same}
+use Rattle.cr_exact.proofs.TwoTokens.{Settled, settled_same}
 
 -- the looks of words that begin no postfix, but begin a statement
 abbrev pub is_postfix_look : TokenLook → Bool
@@ -38,6 +39,12 @@ settled_front (t ∷ []) [] is = is
 settled_front (t ∷ []) (u ∷ b) is = tt
 settled_front (t ∷ u ∷ a) b is = tt
 
+pub bind_settled : {A B : Type 0} (R : Form A) (K : A → Form B) → ((w : List Token) (x : A) → R w x → Settled w) → (w : List Token) (y : B) → (R >>= K) w y → Settled w
+bind_settled R K settled w y c = subst Settled (sym c.3) (settled_front c.0 c.1 (settled c.0 c.2 c.4))
+
+pub listed_settled : {A : Type 0} (R : Form A) → ((w : List Token) (x : A) → R w x → Settled w) → (w : List Token) (xs : List A) → listed R w xs → Settled w
+listed_settled R settled w xs c = subst Settled (sym c.3) (settled_front c.0 c.1 (settled c.0 c.2 c.4))
+
 -- the look of an operand's last token, where the operand tells it
 abbrev pub seen_of : Operand → TokenLook → TokenLook
 seen_of (Name name) seen = l.Ident
@@ -47,13 +54,7 @@ seen_of (Above place) seen = l.Super
 seen_of other seen = seen
 
 last_of_one : (look : TokenLook) (w : List Token) (t : Token) → w ≡ t ∷ [] → look_of t.kind ≡ look → last_look w ≡ look
-last_of_one look w t e is = ap last_look e ∙ is
-
-last_append : (a b : List Token) (t : Token) → b ≡ t ∷ [] → last_look (a ++ b) ≡ look_of t.kind
-last_append [] b t e = ap last_look e
-last_append (u ∷ []) [] t e = absurd cc
-last_append (u ∷ []) (v ∷ b) t e = ap last_look e
-last_append (u ∷ v ∷ a) b t e = last_append (v ∷ a) b t e
+last_of_one _ w t e is = ap last_look e ∙ is
 
 module _ (S : Wanted → Form Tree) (within : Within) where
   abbrev pub P : Form Operand
@@ -157,10 +158,6 @@ module _ (S : Wanted → Form Tree) (within : Within) where
   by_other l.Minus w y is c = absurd cc
   by_other _ w y is c = c
 
-  first_append : (test : TokenLook → Bool) (a b : List Token) → first_is test a ≡ true → first_is test (a ++ b) ≡ true
-  first_append test [] b is = absurd cc
-  first_append test (t ∷ a) b is = is
-
   led_by : (w : List Token) (y : Tree) → first_is is_postfix_look w ≡ true → from_postfix w y → by_first simple_by w y
   led_by [] y is c = absurd cc
   led_by (t ∷ w) y is c = (look_of t.kind, (t, w, refl, refl), by_other (look_of t.kind) (t ∷ w) y is c)
@@ -172,7 +169,7 @@ module _ (S : Wanted → Form Tree) (within : Within) where
         let f = apart.field_out w x name p in
         let d = f.4 in
         let n = d.5 in
-        sym (ap last_look (f.2 ∙ ap (λ (t : List Token). f.0 ++ t) d.3 ∙ sym (append_assoc f.0 d.0 d.1)) ∙ last_append (f.0 ++ d.0) d.1 n.0 n.1 ∙ ap look_of n.2.0)
+        sym (ap last_look (f.2 ∙ ap (λ (t : List Token). f.0 ++ t) d.3 ∙ sym (append_assoc f.0 d.0 d.1)) ∙ last_behind (f.0 ++ d.0) d.1 (one_real d.1 n.0 n.1) ∙ ap last_look n.1 ∙ ap look_of n.2.0)
     seen_is w (Element place x xs) p = refl
     seen_is w (Variable name) p = refl
     seen_is w (Yielding place) p = let n = apart.yielding_out w place p in sym (last_of_one l.Yield w n.1.0 n.1.1 n.1.2.0)
@@ -183,7 +180,7 @@ module _ (S : Wanted → Form Tree) (within : Within) where
     -- a statement that begins with this operand
     begun : (a b w : List Token) (x : Operand) (y : Tree) → w ≡ a ++ b → P a x → behind (place_of w) (x, last_look a) b y → by_first simple_by w y
     begun a b w x y e p c =
-        led_by w y (ap (first_is is_postfix_look) e ∙ first_append is_postfix_look a b (apart.begins a (whole x) (apart.tree_of a x p))) (starts a b w x y e p c)
+        led_by w y (first.behind is_postfix_look w a b e (apart.begins a (whole x) (apart.tree_of a x p))) (starts a b w x y e p c)
 
     local_assigned : (w a b : List Token) (x y : Tree) → w ≡ a ++ b → gr.local S within a x → assigned_rest (place_of w) x o.any_assignment b y → by_first simple_by w y
     local_assigned w a b x y e c r =
@@ -211,7 +208,7 @@ module _ (S : Wanted → Form Tree) (within : Within) where
     assignment_in w y (inr c) = place_assigned w c.0 c.1 c.2 y c.3 c.4 c.5
 
     list_settled : (w : List Token) (xs : List Tree) → listed (S (Or within false)) w xs → Settled w
-    list_settled w xs c = subst Settled (sym c.3) (settled_front c.0 c.1 (settled c.0 c.2 c.4))
+    list_settled = listed_settled (S (Or within false)) settled
 
     -- arguments that begin so, and what follows them
     argued : {A : Type 0} (K : List Tree → Form A) (w : List Token) (y : A) → (gr.bare_arguments S within >>= K) w y → passing o.begins_argument (listed (S (Or within false)) >>= K) w y
@@ -251,26 +248,23 @@ module _ (S : Wanted → Form Tree) (within : Within) where
     command_in w y (inr (inr (inr (is, c)))) =
         begun c.0 c.1 w (Above c.2) y c.3 (apart.above_back c.0 c.2 (is, c.4)) (inl (argued (λ xs. nothing (tree.Super c.2 xs)) c.1 y c.5))
 
-    led_word : (look : TokenLook) (w a b : List Token) (at : ℕ) → w ≡ a ++ b → word look a at → Led look w
-    led_word look w a b at e r = (r.0, b, e ∙ ap (λ (t : List Token). t ++ b) r.1, r.2.0)
-
     jump_in : (w : List Token) (y : Tree) → gr.jump S within w y → by_first simple_by w y
-    jump_in w y (inl c) = (l.Return, led_word l.Return w c.1.0 c.1.1 c.1.2 c.1.3 c.1.4, c)
-    jump_in w y (inr (inl c)) = (l.Next, led_word l.Next w c.1.0 c.1.1 c.1.2 c.1.3 c.1.4, c)
-    jump_in w y (inr (inr c)) = (l.Break, led_word l.Break w c.1.0 c.1.1 c.1.2 c.1.3 c.1.4, c)
+    jump_in w y (inl c) = (l.Return, led_at l.Return w c.1.0 c.1.1 c.1.2 c.1.3 c.1.4, c)
+    jump_in w y (inr (inl c)) = (l.Next, led_at l.Next w c.1.0 c.1.1 c.1.2 c.1.3 c.1.4, c)
+    jump_in w y (inr (inr c)) = (l.Break, led_at l.Break w c.1.0 c.1.1 c.1.2 c.1.3 c.1.4, c)
 
     -- the first operand of an `or`, by which all goes
     or_by : (w a b : List Token) (x : Tree) (z : Tree × TokenLook) → w ≡ a ++ b → ex.unary S within true a x → or_rest S within true (x, last_look a) b z
         → ex.or S within true w z.0 → by_first simple_by w z.0
     or_by w a b x z e (inl c) r whole_or =
-        (l.Bang, led_word l.Bang w c.0 (c.1 ++ b) c.2 (e ∙ ap (λ (t : List Token). t ++ b) c.3 ∙ append_assoc c.0 c.1 b) c.4, whole_or)
+        (l.Bang, led_at l.Bang w c.0 (c.1 ++ b) c.2 (e ∙ ap (λ (t : List Token). t ++ b) c.3 ∙ append_assoc c.0 c.1 b) c.4, whole_or)
     or_by w a b x z e (inr (inl c)) r whole_or =
-        (l.Minus, led_word l.Minus w c.0 (c.1 ++ b) c.2 (e ∙ ap (λ (t : List Token). t ++ b) c.3 ∙ append_assoc c.0 c.1 b) c.4, whole_or)
+        (l.Minus, led_at l.Minus w c.0 (c.1 ++ b) c.2 (e ∙ ap (λ (t : List Token). t ++ b) c.3 ∙ append_assoc c.0 c.1 b) c.4, whole_or)
     or_by w a b x z e (inr (inr c)) r whole_or =
         let p = apart.operand_of a x c in
         begun a b w p.0 z.0 e p.1 (operated_behind (place_of w) p.0 (last_look a) b z.0
         (subst (λ v. operated (whole p.0, v) b z.0) (sym (seen_is a p.0 p.1))
-        (made_back (or_rest S within true (whole p.0, last_look a)) (λ (v : Tree × TokenLook). v.0) b z
+        (made_in (or_rest S within true (whole p.0, last_look a)) (λ (v : Tree × TokenLook). v.0) b z
         (subst (λ v. or_rest S within true (v, last_look a) b z) (sym p.2) r))))
 
     or_in : (w : List Token) (y : Tree) → ex.or S within true w y → by_first simple_by w y
@@ -298,12 +292,12 @@ module _ (S : Wanted → Form Tree) (within : Within) where
 
       name_assigned_out : (name : Word) → P a (Name name) → assigned_rest (place_of w) (whole (Name name)) o.any_assignment b y → gr.simple S within w y
       name_assigned_out name p c =
-          inl (inl (a, b, whole (Name name), e, inl (made_back ident (λ (n : Word). tree.Call n.at None n.text [] None) a name (apart.name_out a name p)), c))
+          inl (inl (a, b, whole (Name name), e, inl (made_in ident (λ (n : Word). tree.Call n.at None n.text [] None) a name (apart.name_out a name p)), c))
 
       variable_assigned_out : (name : Word) → P a (Variable name) → assigned_rest (place_of w) (whole (Variable name)) o.any_assignment b y → gr.simple S within w y
       variable_assigned_out name p c =
           let v = apart.variable_out a name p in
-          inl (inl (a, b, whole (Variable name), e, inr (v.0, made_back instance_variable (λ (n : Word). tree.InstanceVariable n.at n.text) a name v.1), c))
+          inl (inl (a, b, whole (Variable name), e, inr (v.0, made_in instance_variable (λ (n : Word). tree.InstanceVariable n.at n.text) a name v.1), c))
 
       field_assigned_out : (x : Tree) (name : Word) → P a (Field x name) → assigned_rest (place_of w) (whole (Field x name)) o.field_assignment b y → gr.simple S within w y
       field_assigned_out x name p c =
@@ -314,7 +308,7 @@ module _ (S : Wanted → Form Tree) (within : Within) where
             b,
             whole (Field x name),
             e,
-            inl (f.0, f.1, x, f.2, f.3, (d.0, d.1, d.2, d.3, d.4, made_back ident (λ (n : Word). tree.Call n.at (Some x) n.text [] None) d.1 name d.5)),
+            inl (f.0, f.1, x, f.2, f.3, (d.0, d.1, d.2, d.3, d.4, made_in ident (λ (n : Word). tree.Call n.at (Some x) n.text [] None) d.1 name d.5)),
             c,
           ))
 
@@ -326,7 +320,7 @@ module _ (S : Wanted → Form Tree) (within : Within) where
             b,
             whole (Element at x xs),
             e,
-            inr (f.0, f.1, x, f.2, f.3, made_back (ex.indices S within true) (λ (found : ℕ × List Tree). tree.Index found.0 x found.1 false) f.1 (at, xs) f.4),
+            inr (f.0, f.1, x, f.2, f.3, made_in (ex.indices S within true) (λ (found : ℕ × List Tree). tree.Index found.0 x found.1 false) f.1 (at, xs) f.4),
             c,
           ))
 

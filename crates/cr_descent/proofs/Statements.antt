@@ -1,5 +1,5 @@
 -- Statements are read exactly.
-use Rattle.std.proofs.Common.{◌≡◌, ℕ, Bool, true, false, ◌&&◌, ◌||◌, List, [], ◌∷◌, ◌++◌, ◌⊎◌, inl, inr, refl, sym, ap, subst, ◌∙◌}
+use Rattle.std.proofs.Common.{◌≡◌, ℕ, Bool, true, false, ◌&&◌, ◌||◌, List, [], ◌∷◌, ◌++◌, ◌⊎◌, inl, inr, refl, sym, ap, ◌∙◌}
 use Rattle.std.specs.Prelude.{not, IsTrue, Option, Some, None, is_some}
 use Rattle.std.proofs.lemmas.List.{append-nil}
 use Rattle.cr_syntax.specs.declared.look.TokenLook.{TokenLook}
@@ -12,38 +12,37 @@ use Rattle.cr_grammar.specs.declared.operator.Assignment.TheVariants as assignme
 use Rattle.cr_grammar.specs.declared.tree.Tree.{Tree}
 use Rattle.cr_grammar.specs.declared.tree.Tree.TheVariants as tree
 use Rattle.cr_grammar.specs.declared.within.Within.{Within}
-use Rattle.cr_grammar.specs.Forms.{Form, nothing, ◌<|>◌, where_true, passing, maybe, from_first, word, Word, with_last, listed}
+use Rattle.cr_grammar.specs.Forms.{Form, nothing, ◌<|>◌, maybe, listed}
 use Rattle.cr_grammar.specs.Forms as f
 use Rattle.cr_grammar.specs.Operators as o
 use Rattle.cr_grammar.specs.Wanted.{Wanted, Or, Simple}
-use Rattle.cr_grammar.specs.Laws.{begins_or}
 use Rattle.cr_grammar.specs.Expressions as ex
 use Rattle.cr_grammar.specs.declared.operator.Binary.TheVariants as binary
 use Rattle.cr_grammar.proofs.Derive as derive
 use Rattle.cr_exact.specs.Reader.{Reader, Test, passes, same_look, seen, either, never, take, choose, ◌>>=◌, ◌>>◌, pure, wrap, part}
 use Rattle.cr_exact.specs.Exact.{Stops, Effort, Exact, Any}
-use Rattle.cr_exact.proofs.Sequence.{exact_bind, exact_pure, exact_goes, weaken}
-use Rattle.cr_exact.proofs.Tokens.{exact_take, exact_choose, a_token, same_look_is}
-use Rattle.cr_exact.proofs.Loops.{Apart, Heads}
-use Rattle.cr_exact.proofs.Nodes.{exact_silent, silent_wrap, exact_part}
 use Rattle.cr_descent.specs.Goes as g
 use Rattle.cr_descent.specs.Operand.{Operand, Name, Field, Element, Variable, Yielding, Above, Passing, Whole, whole}
 use Rattle.cr_descent.specs.Statements as statements
 use Rattle.cr_descent.specs.Statements.{assigning_of, is_assigning}
 use Rattle.cr_exact.specs.Lists.{optional}
 use Rattle.cr_descent.specs.Bodies.{doblock}
-use Rattle.cr_descent.proofs.Lists.{NoLine, Not, exact_listed, exact_optional, never_stops}
-use Rattle.cr_descent.proofs.Begins.{Less, LedBy, Follows, Spelled, led_at, first_stops, apart_seen, led_seen, follows_nothing, follows_maybe, follows_led, spelled_listed, spelled_nothing, spelled_bind, spelled_maybe}
-use Rattle.cr_descent.proofs.PostfixForms.{made_back, one_listed}
-use Rattle.cr_descent.proofs.OperationForms.{nothing_out as made_out}
+use Rattle.cr_exact.proofs.TokenTests.{Not, never_stops, Less, Apart, seen_apart}
+use Rattle.cr_exact.proofs.Sequence.{exact_bind, exact_pure, exact_goes, weaken}
+use Rattle.cr_exact.proofs.Tokens.{exact_take, exact_choose, a_token, some_one}
+use Rattle.cr_exact.proofs.Forms.{Spelled, spelled_listed, spelled_nothing, spelled_bind, spelled_maybe, made_in, one_listed, made_out}
+use Rattle.cr_exact.proofs.Heads.{Heads, LedBy, led_at, led_seen}
+use Rattle.cr_exact.proofs.Follows.{Follows, follows_nothing, follows_maybe, follows_led}
+use Rattle.cr_exact.proofs.Nodes.{exact_silent, silent_wrap, exact_part}
+use Rattle.cr_exact.proofs.Lists.{exact_listed, exact_optional}
 use Rattle.cr_descent.proofs.OperationForms.{or_rest, sum_rest, shift_rest, cmp_rest, and_rest}
 use Rattle.cr_descent.proofs.Operated.{Operated, rest_fine, neither, passes_front}
 use Rattle.cr_descent.proofs.StatementForms as forms
-use Rattle.cr_descent.proofs.StatementForms.{settled_front}
+use Rattle.cr_descent.proofs.StatementForms.{bind_settled, listed_settled}
 use Rattle.cr_descent.proofs.Claims as claims
-use Rattle.cr_descent.proofs.Bodies.{exact_doblock}
+use Rattle.cr_descent.proofs.Bodies.{exact_doblock, or_halts}
 use Rattle.cr_descent.proofs.Operations.{exact_or_from}
-use Rattle.cr_descent.proofs.Commands.{Settled, tight_nil, spaced_nil, and_false, exact_unless}
+use Rattle.cr_exact.proofs.TwoTokens.{Settled, tight_nil, spaced_nil, and_false, exact_unless}
 
 -- ---- what may follow
 
@@ -97,9 +96,6 @@ simple_word l.End spaced e = (refl, refl)
 simple_word _ spaced e = absurd cc
 
 -- ---- a token that assigns
-
-some_one : {A : Type 0} (x y : A) → let some : A → Option A = Some in some x ≡ some y → x ≡ y
-some_one x y e = cc
 
 assigns_out : (t : Token) (found : Option Assignment) (x : ℕ × Assignment) → assigning_of t found ≡ Some x → (found ≡ Some x.1) × (x.0 ≡ t.span.first)
 assigns_out t None x e = absurd cc
@@ -197,7 +193,7 @@ simple_assigns (t ∷ rest) stop = (simple_other (look_of t.kind) t.spaced stop)
 
 -- No argument without parentheses goes on by a comma.
 pub comma_apart : Apart (seen l.Comma) (g.goes_or false)
-comma_apart look spaced e = subst (λ v. g.goes_or false v spaced ≡ false) (sym (same_look_is look l.Comma e)) refl
+comma_apart = seen_apart l.Comma (g.goes_or false) (λ spaced. refl)
 
 -- ---- the pieces
 
@@ -220,7 +216,7 @@ module _ (effort : Effort) (rec : Wanted → Reader Tree) (S T : Wanted → Form
       (λ value. exact_pure effort (make found value) g.goes_simple)
       (λ value. ([], make found value, (refl, refl)))
       (λ value b y rest d stop. rw d.0 stop)))
-      (λ found. (some.0, make found some.1, made_back (S (Simple within)) (make found) some.0 some.1 some.2))
+      (λ found. (some.0, make found some.1, made_in (S (Simple within)) (make found) some.0 some.1 some.2))
       (λ found b y rest d stop. never_stops (b ++ rest))
 
   abbrev Arguments : (Wanted → Form Tree) → Form (List Tree)
@@ -229,16 +225,11 @@ module _ (effort : Effort) (rec : Wanted → Reader Tree) (S T : Wanted → Form
   abbrev goes_arguments : Test
   goes_arguments = either (seen l.Comma) (g.goes_or false)
 
-  pub or_lineless : NoLine (T (Or within false))
-  or_lineless w x rest c = first_stops (begins_or within) (seen l.Newline) (apart_seen (begins_or within) l.Newline refl) w rest (given.or_begins within false w x c)
-
   pub exact_arguments : Exact effort Any (Arguments S) (Arguments T) goes_arguments (statements.bare_arguments turns rec within)
   exact_arguments =
       let some = given.some (Or within false) in
       exact_listed effort (S (Or within false)) (T (Or within false)) (g.goes_or false) (part (rec (Or within false))) (exact_part _ (given.exact (Or within false)))
-      (λ w x rest c. first_stops (begins_or within) (seen l.Newline) (apart_seen (begins_or within) l.Newline refl) w rest (given.or_begins within false w x c))
-      some.0 some.1 some.2
-      (λ look spaced e. subst (λ v. g.goes_or false v spaced ≡ false) (sym (same_look_is look l.Comma e)) refl)
+      (or_halts effort rec S T given within false l.Newline refl) some.0 some.1 some.2 comma_apart
 
   pub arguments_less : Less goes_arguments g.goes_simple
   arguments_less look spaced e = rw ((simple_word look spaced e).1, simple_or false look spaced e) refl
@@ -316,11 +307,11 @@ module _ (effort : Effort) (sure : Type 0) (rec : Wanted → Reader Tree) (S T U
   again = record { deep = sure; turns = effort.turns }
 
   list_settled : (Q : Wanted → Form Tree) → ((w : List Token) (x : Tree) → Q (Or within false) w x → Settled w) → (w : List Token) (xs : List Tree) → listed (Q (Or within false)) w xs → Settled w
-  list_settled Q settled w xs c = subst Settled (sym c.3) (settled_front c.0 c.1 (settled c.0 c.2 c.4))
+  list_settled Q settled = listed_settled (Q (Or within false)) settled
 
   pub behind_settled : {A : Type 0} (Q : Wanted → Form Tree) → ((w : List Token) (x : Tree) → Q (Or within false) w x → Settled w) → (K : List Tree → Form A)
       → (w : List Token) (y : A) → f.◌>>=◌ (listed (Q (Or within false))) K w y → Settled w
-  behind_settled Q settled K w y c = subst Settled (sym c.3) (settled_front c.0 c.1 (list_settled Q settled c.0 c.2 c.4))
+  behind_settled Q settled K w y c = bind_settled (listed (Q (Or within false))) K (list_settled Q settled) w y c
 
   pub operated_settled : (Q : Wanted → Form Tree) (x : Tree × TokenLook) (w : List Token) (y : Tree) → forms.operated Q within x w y → (w ≡ []) ⊎ Operated x.1 w
   operated_settled Q x w y c =
@@ -342,7 +333,7 @@ module _ (effort : Effort) (sure : Type 0) (rec : Wanted → Reader Tree) (S T U
       let cmp : cmp_rest U within true x w y = (w, [], y, sym (append-nil w), shift, inr (refl, refl)) in
       let and : and_rest U within true x w y = (w, [], y, sym (append-nil w), cmp, (0, (refl, refl))) in
       let or : or_rest U within true x w y = (w, [], y, sym (append-nil w), and, (0, (refl, refl))) in
-      (y.0, made_back (or_rest U within true x) (λ (v : Tree × TokenLook). v.0) w y or)
+      (y.0, made_in (or_rest U within true x) (λ (v : Tree × TokenLook). v.0) w y or)
 
   module _ (x : Tree × TokenLook) (named : o.is_name x.1 ≡ true) (KS KT KU : Form Tree) (p : Reader Tree)
       (ek : Exact effort Any KS KT g.goes_simple p) (eku : Exact again Any KS KU g.goes_simple p)

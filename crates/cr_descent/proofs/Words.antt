@@ -1,5 +1,5 @@
 -- The tokens that hold a name, a number or a text are read exactly.
-use Rattle.std.proofs.Common.{◌≡◌, ℕ, ℤ, pos, Bool, true, false, List, Option, Some, ◌⊎◌, inl, inr, refl, sym, ap, ◌∙◌}
+use Rattle.std.proofs.Common.{◌≡◌, ℕ, ℤ, pos, true, List, Some, ◌⊎◌, inl, inr, refl, sym, ap, ◌∙◌}
 use Rattle.std.proofs.lemmas.Slice.Eq.{bytes_eq-Decides}
 use Rattle.cr_syntax.specs.declared.token.Token.{Token}
 use Rattle.cr_syntax.specs.declared.token.TokenKind.{TokenKind}
@@ -9,15 +9,8 @@ use Rattle.cr_grammar.specs.declared.tree.Tree.TheVariants as tree
 use Rattle.cr_grammar.specs.Forms as f
 use Rattle.cr_exact.specs.Reader.{Test, holder, place_if}
 use Rattle.cr_exact.specs.Exact.{Effort, Exact, Any}
-use Rattle.cr_exact.proofs.Tokens.{exact_take, exact_holder, a_token}
 use Rattle.cr_descent.specs.Words.{ident_text, constant_text, variable_text, whole_text, first_text, middle_text, last_text, ident, constant, instance_variable, is_ident, exactly_ident, number_of, number}
-
-some_one : {A : Type 0} (x y : A) → let some : A → Option A = Some in some x ≡ some y → x ≡ y
-some_one x y e = cc
-
-place_out : (b : Bool) (t : Token) (at : ℕ) → place_if b t ≡ Some at → (b ≡ true) × (at ≡ t.span.first)
-place_out true t at e = (refl, cc)
-place_out false t at e = absurd cc
+use Rattle.cr_exact.proofs.Tokens.{exact_take, exact_holder, a_token, some_one, place_out}
 
 -- ---- names and texts
 

@@ -1,21 +1,19 @@
 -- What is counted by readers that choose by the next token, and by those that look back.
-use Rattle.std.proofs.Common.{◌≡◌, ℕ, Bool, true, false, cond, List, [], ◌∷◌, ◌++◌, Some, ◌⊎◌, inl, inr, refl, sym, ap, subst, ◌∙◌}
+use Rattle.std.proofs.Common.{◌≡◌, ℕ, Bool, true, false, List, [], ◌++◌, Some, ◌⊎◌, inl, inr, refl, sym, ap, subst, ◌∙◌}
 use Rattle.cr_syntax.specs.declared.look.TokenLook.{TokenLook}
 use Rattle.cr_syntax.specs.declared.token.Token.{Token}
 use Rattle.cr_grammar.specs.Forms.{Form, ◌<|>◌, where_true, with_last, place_of, from_first}
 use Rattle.cr_exact.specs.declared.fault.ParseFault.{ParseFault}
-use Rattle.cr_exact.specs.Reader.{State, Outcome, Found, Failed, Reader, ◌>>=◌, pure, Test, passes, place_at, look_at, refuse, choose, only, by_look, allow, last, here}
+use Rattle.cr_exact.specs.Reader.{State, Found, Failed, Reader, ◌>>=◌, pure, Test, passes, place_at, look_at, refuse, choose, only, by_look, allow, last, here}
 use Rattle.cr_exact.specs.Exact.{head, Stops, Any}
 use Rattle.cr_exact.specs.Limits.{Tally, Counted, limit_at, Beyond, AtMost, Halts, Counts}
+use Rattle.cr_exact.proofs.TokenTests.{clash}
 use Rattle.cr_exact.proofs.Sequence.{head-passes, head-place, head-look, bind_found, bind_refused, parts_found}
-use Rattle.cr_exact.proofs.Tokens.{Passing, Failing, Looks, Led, by_first, clash, not_found}
+use Rattle.cr_exact.proofs.Tokens.{Passing, Failing, Looks, Led, by_first, not_found, chosen}
+use Rattle.cr_exact.proofs.Places.{first_place}
 use Rattle.cr_exact.proofs.Limits.{head-some, still_refuse}
 
 -- ---- one way or the other
-
-chosen : {A : Type 0} (b : Bool) (p q : Reader A) (s : State) (r : Outcome A) → cond b p q s ≡ r → ((b ≡ true) × (p s ≡ r)) ⊎ ((b ≡ false) × (q s ≡ r))
-chosen true p q s r e = inl (refl, e)
-chosen false p q s r e = inr (refl, e)
 
 -- What is spelled where these tokens stand begins with the same token.
 ahead : (s s' : State) (front w rest more : List Token) → (front ≡ [] → ⊥) → s.rest ≡ front ++ s'.rest → w ++ rest ≡ front ++ more → head (w ++ rest) ≡ head s.rest
@@ -187,10 +185,6 @@ module _ {A : Type 0} {Pre : List Token → Type 0} {C : Form A} {g : Test} (p :
   pub counts_last : Counts Pre (with_last C) g from (λ x. to x.0) both
   counts_last = record { same = cp.same; grows = λ w x c. cp.grows w x.0 c.0; found = last-counts; stopped = last-stops }
 
-first_place : (w rest : List Token) → (w ≡ [] → ⊥) → place_at (w ++ rest) ≡ place_of w
-first_place [] rest real = absurd (real refl)
-first_place (t ∷ w) rest real = refl
-
 pub counts_here : {A : Type 0} (C : ℕ → Form A) (g : Test) (p : ℕ → Reader A) {from : Tally} {to : A → Tally} → ((place : ℕ) → Counts Any (C place) g from to (p place))
     → ((place : ℕ) (w : List Token) (x : A) → C place w x → w ≡ [] → ⊥) → Counts Any (from_first C) g from to (here >>= p)
 counts_here {A = A} C g p {from = from} {to = to} cp sure = record {
@@ -208,4 +202,19 @@ counts_here {A = A} C g p {from = from} {to = to} cp sure = record {
             let same : place_of w ≡ place_at s.rest = sym (first_place w rest (sure (place_of w) w y c)) ∙ head-place (w ++ rest) s.rest (ahead s s' H.front w rest more H.some H.parts whole) in
             H.beyond w rest more y (subst (λ v. C v w y) same c) whole next stop;
       };
+}
+
+-- where a condition holds that has nothing to do with the tokens
+pub way_where : {A : Type 0} (look : TokenLook) (c : Bool) (C : Form A) (g : Test) (p : Reader A) (from : Tally) (to : A → Tally)
+    → (c ≡ true → Counts (Looks look) C g from to p) → Way look (where_true c C) g from to (allow c p)
+way_where _ true C g p from to cp = inl (counts_allowed true C g p (cp refl))
+way_where _ false C g p from to cp = inr (refl, λ w x led c. clash refl c.0)
+
+-- what is refused at once counts nothing
+pub counts_refuse : {A : Type 0} (goes : Test) (from : Tally) (to : A → Tally) → Counts Any (λ w x. ⊥) goes from to refuse
+counts_refuse goes from to = record {
+  same = λ a b e pre. tt;
+  grows = λ w x c. absurd c;
+  found = λ s x s' pre is e. absurd (not_found s x s' e);
+  stopped = λ s e n s' pre is failed limit. absurd (still_refuse.lets s e n s' failed limit);
 }

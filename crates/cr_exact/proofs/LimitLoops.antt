@@ -8,8 +8,9 @@ use Rattle.cr_exact.specs.Reader.{Reader, Test, passes, ◌>>=◌, pure, give_up
 use Rattle.cr_exact.specs.Lists.{optional}
 use Rattle.cr_exact.specs.Exact.{Stops, Effort, Exact, Any}
 use Rattle.cr_exact.specs.Limits.{Tally, AtMost, Counts, tallied, if_any}
+use Rattle.cr_exact.proofs.TokenTests.{Apart, apart_stops, stops_left, stops_right}
 use Rattle.cr_exact.proofs.Tokens.{Passing, Failing}
-use Rattle.cr_exact.proofs.Loops.{Apart, Heads, apart_stops, stops_left, stops_right}
+use Rattle.cr_exact.proofs.Heads.{Heads}
 use Rattle.cr_exact.proofs.Limits.{least, at_most, still_pure, still_give_up, counts_pure, counts_weaken, counts_map, counts_bind, counts_bind_quiet}
 use Rattle.cr_exact.proofs.LimitChoices.{counts_choose, failing_same}
 

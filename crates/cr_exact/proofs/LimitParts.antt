@@ -9,8 +9,9 @@ use Rattle.cr_exact.specs.Reader.{Reader, Test, pure, either, many, part, beside
 use Rattle.cr_exact.specs.Lists.{optional}
 use Rattle.cr_exact.specs.Exact.{Effort, Exact, Any}
 use Rattle.cr_exact.specs.Limits.{Tally, known, Counts, tallied, Whole, Rises, tall, size_of_all, top_of_all, if_some, risen, if_any}
+use Rattle.cr_exact.proofs.TokenTests.{Apart}
 use Rattle.cr_exact.proofs.Tokens.{Passing}
-use Rattle.cr_exact.proofs.Loops.{Apart, Heads}
+use Rattle.cr_exact.proofs.Heads.{Heads}
 use Rattle.cr_exact.proofs.Limits.{counts_pure, counts_as}
 use Rattle.cr_exact.proofs.LimitSteps.{counts_part, counts_beside}
 use Rattle.cr_exact.proofs.LimitLoops.{counts_many, counts_optional}
@@ -35,6 +36,9 @@ sum_append (x ∷ xs) ys =
     let c = sum_append xs ys in
     omega (arith, a, b, c)
 
+pub sum_last : (xs : List ℕ) (x : ℕ) → sum (xs ++ x ∷ []) ≡ sum xs + x
+sum_last xs x = let a = sum_append xs (x ∷ []) in let b = sum_cons x [] in omega (arith, a, b)
+
 tall_from : (n : ℕ) (xs : List ℕ) → fold max n xs ≡ max n (tall xs)
 tall_from n [] = omega arith
 tall_from n (x ∷ xs) =
@@ -52,6 +56,9 @@ tall_append (x ∷ xs) ys =
     let b = tall_cons x xs in
     let c = tall_append xs ys in
     omega (arith, a, b, c)
+
+pub tall_last : (xs : List ℕ) (x : ℕ) → tall (xs ++ x ∷ []) ≡ max (tall xs) x
+tall_last xs x = let a = tall_append xs (x ∷ []) in let b = tall_cons x [] in omega (arith, a, b)
 
 -- A node is one higher than its highest part.
 pub tall_above : (height : ℕ) (xs : List ℕ) → 0 < height → max height (tall (map (λ n. n + 1) xs)) ≡ max height (tall xs + 1)

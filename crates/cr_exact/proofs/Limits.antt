@@ -257,6 +257,28 @@ counts_as {from = from} other is c = record {
       };
 }
 
+-- the same counts, named otherwise for all that is spelled
+pub counts_as_spelled : {effort : Effort} {A : Type 0} {Pre : List Token → Type 0} {R C : Form A} {g : Test} {from : Tally} {to : A → Tally} {p : Reader A} (other : A → Tally)
+    → Exact effort Pre R C g p → ((w : List Token) (x : A) → R w x → to x ≡ other x) → ((w : List Token) (x : A) → C w x → to x ≡ other x)
+    → Counts Pre C g from to p → Counts Pre C g from other p
+counts_as_spelled {from = from} other ep found complete c = record {
+  same = c.same;
+  grows = λ w x d. subst (AtMost from) (complete w x d) (c.grows w x d);
+  found = λ s x s' pre counted e.
+      let F = c.found s x s' pre counted e in
+      let P = ep.found s x s' pre e in
+      (subst (λ v. Counted v s') (found P.front x P.spelled) F.0, F.1);
+  stopped = λ s e n s' pre counted failed limit.
+      let H = c.stopped s e n s' pre counted failed limit in
+      record {
+        front = H.front;
+        some = H.some;
+        parts = H.parts;
+        place = H.place;
+        beyond = λ w rest more y d whole next stop. subst (λ v. Beyond e s.depth v) (complete w y d) (H.beyond w rest more y d whole next stop);
+      };
+}
+
 -- ---- what counts nothing
 
 high_same : (height : Option ℕ) (s s' : State) → s'.depth ≡ s.depth → s'.height ≡ s.height → IsHigh height s → IsHigh height s'

@@ -1,72 +1,42 @@
 -- Loops: what is read time and again as long as the next token passes a test.
-use Rattle.std.proofs.Common.{◌≡◌, ℕ, zero, suc, ◌<◌, ◌≤◌, Bool, true, false, cond, List, [], ◌∷◌, ◌++◌, length, inl, inr, refl, sym, ap, subst, ◌∙◌, append_assoc, arith}
+use Rattle.std.proofs.Common.{◌≡◌, ℕ, zero, suc, ◌<◌, ◌≤◌, true, List, [], ◌∷◌, ◌++◌, length, inl, inr, refl, sym, ap, subst, ◌∙◌, append_assoc, arith}
 use Rattle.std.proofs.lemmas.List.{length-append, append-nil}
-use Rattle.cr_syntax.specs.declared.look.TokenLook.{TokenLook}
 use Rattle.cr_syntax.specs.declared.token.Token.{Token}
-use Rattle.cr_syntax.specs.Look.{look_of}
 use Rattle.cr_grammar.specs.Forms.{Form, nothing, ◌<|>◌}
 use Rattle.cr_grammar.specs.Forms as f
 use Rattle.cr_exact.specs.Reader.{State, Reader, Test, passes, ◌>>=◌, pure, either, many, repeated}
 use Rattle.cr_exact.specs.Exact.{Stops, Effort, Enough, Exact, Any}
+use Rattle.cr_exact.proofs.TokenTests.{stops_left, stops_right, Apart}
 use Rattle.cr_exact.proofs.Sequence.{exact_bind_by, exact_bind, exact_pure, exact_map, weaken}
 use Rattle.cr_exact.proofs.Tokens.{Passing, exact_choose}
-
-pub either_left : (b c : Bool) → cond b true c ≡ false → b ≡ false
-either_left true c e = absurd cc
-either_left false c e = refl
-
-pub either_right : (b c : Bool) → cond b true c ≡ false → c ≡ false
-either_right true c e = absurd cc
-either_right false c e = e
-
-pub stops_left : (a b : Test) (ts : List Token) → Stops (either a b) ts → Stops a ts
-stops_left a b [] e = refl
-stops_left a b (t ∷ ts) e = either_left _ _ e
-
-pub stops_right : (a b : Test) (ts : List Token) → Stops (either a b) ts → Stops b ts
-stops_right a b [] e = refl
-stops_right a b (t ∷ ts) e = either_right _ _ e
-
--- two tests that no token passes both
-abbrev pub Apart : Test → Test → Type 0
-Apart test g = (look : TokenLook) (spaced : Bool) → test look spaced ≡ true → g look spaced ≡ false
-
-pub apart_stops : (test g : Test) → Apart test g → (ts : List Token) → passes test ts ≡ true → Stops g ts
-apart_stops test g apart [] is = refl
-apart_stops test g apart (t ∷ ts) is = apart (look_of t.kind) t.spaced is
+use Rattle.cr_exact.proofs.Heads.{Heads, many_stop, repeated_stop, heads_halts}
 
 -- with so many turns
 abbrev pub turns_of : Effort → ℕ → Effort
 turns_of effort n = record { deep = effort.deep; turns = n }
 
-abbrev pub Heads : {A : Type 0} → Test → Form A → Type 0
-Heads test C = (w : List Token) (x : _) (rest : List Token) → C w x → passes test (w ++ rest) ≡ true
-
 some_length : (test : Test) (w : List Token) → passes test (w ++ []) ≡ true → 0 < length w
 some_length test [] is = absurd cc
 some_length test (t ∷ ts) is = omega arith
 
+-- what is enough with fewer turns
+pub fewer : (effort : Effort) (n : ℕ) → n ≤ effort.turns → (s : State) → Enough (turns_of effort n) s → Enough effort s
+fewer effort n le s is = (is.0, is.1, omega (arith, is.2, le))
+
+-- behind what is not empty one turn less is enough
+pub one_less : (effort : Effort) (test : Test) (n : ℕ) (a : List Token) (s m : State) → passes test (a ++ []) ≡ true → s.rest ≡ a ++ m.rest → m.limited ≡ s.limited
+    → Enough (turns_of effort (suc n)) s → Enough (turns_of effort n) m
+one_less effort test n a s m is e same en = (en.0, same ∙ en.1, omega (arith, en.2, ap length e, length-append a m.rest, some_length test a is))
+
 module _ (effort : Effort) (test : Test) (g : Test) (apart : Apart test g) where
   abbrev h : Test
   h = either test g
-
-  fewer : (n : ℕ) → suc n ≤ effort.turns → (s : State) → Enough (turns_of effort (suc n)) s → Enough effort s
-  fewer n le s is = (is.0, is.1, omega (arith, is.2, le))
-
-  one_less : (n : ℕ) (a : List Token) (s m : State) → passes test (a ++ []) ≡ true → s.rest ≡ a ++ m.rest → m.limited ≡ s.limited → Enough (turns_of effort (suc n)) s → Enough (turns_of effort n) m
-  one_less n a s m is e same en = (en.0, same ∙ en.1, omega (arith, en.2, ap length e, length-append a m.rest, some_length test a is))
 
   -- ---- a list
 
   module _ {A : Type 0} (R C : Form A) (p : Reader A) (ep : Exact effort (Passing test) R C g p) (heads : Heads test C) where
     abbrev more_of : Form A → Form (List A)
     more_of Q = f.◌>>=◌ Q (λ x. f.◌>>=◌ (f.many Q) (λ xs. nothing (x ∷ xs)))
-
-    many_stops : (xs : List A) (w rest : List Token) → f.many C w xs → Stops h rest → Stops g (w ++ rest)
-    many_stops [] w rest c stop = rw c (stops_right test g rest stop)
-    many_stops (x ∷ xs) w rest c stop =
-        let whole : w ++ rest ≡ c.0 ++ (c.1 ++ rest) = ap (λ (t : List Token). t ++ rest) c.2 ∙ append_assoc c.0 c.1 rest in
-        apart_stops test g apart (w ++ rest) (ap (passes test) whole ∙ heads c.0 x (c.1 ++ rest) c.3)
 
     many_out : (Q : Form A) (w : List Token) (xs : List A) → (more_of Q <|> nothing []) w xs → f.many Q w xs
     many_out Q w xs (inl c) =
@@ -91,8 +61,8 @@ module _ (effort : Effort) (test : Test) (g : Test) (apart : Apart test g) where
         (exact_bind_by (turns_of effort (suc n)) effort (turns_of effort n) (Passing test) R C g p
         (λ x. f.◌>>=◌ (f.many R) (λ xs. nothing (x ∷ xs))) (λ x. f.◌>>=◌ (f.many C) (λ xs. nothing (x ∷ xs))) h
         (λ x. many test p n >>= λ xs. pure (x ∷ xs))
-        (fewer n le)
-        (λ a x s m c e same en. one_less n a s m (heads a x [] c) e same en)
+        (fewer effort (suc n) le)
+        (λ a x s m c e same en. one_less effort test n a s m (heads a x [] c) e same en)
         ep
         (λ x. exact_bind (λ xs. nothing (x ∷ xs)) (λ xs. nothing (x ∷ xs)) h (λ xs. pure (x ∷ xs))
         (many_turns n (omega (arith, le)))
@@ -100,7 +70,7 @@ module _ (effort : Effort) (test : Test) (g : Test) (apart : Apart test g) where
         (λ xs. ([], x ∷ xs, (refl, refl)))
         (λ xs b y rest d stop. rw d.0 stop))
         (λ x. ([], x ∷ [], ([], [], [], refl, refl, (refl, refl))))
-        (λ x b y rest d stop. subst (λ (t : List Token). Stops g (t ++ rest)) (sym (d.3 ∙ ap (λ (t : List Token). d.0 ++ t) d.5.0 ∙ append-nil d.0)) (many_stops d.2 d.0 rest d.4 stop)))
+        (λ x b y rest d stop. subst (λ (t : List Token). Stops g (t ++ rest)) (sym (d.3 ∙ ap (λ (t : List Token). d.0 ++ t) d.5.0 ∙ append-nil d.0)) (many_stop g C (heads_halts test g C heads apart) d.0 d.2 rest d.4 (stops_right test g rest stop))))
         (weaken _ (exact_pure _ [] h))
         (λ w xs rest c. ap (λ (t : List Token). passes test (t ++ rest)) c.3 ∙ ap (passes test) (append_assoc c.0 c.1 rest) ∙ heads c.0 c.2 (c.1 ++ rest) c.4)
         (λ w xs rest d stop. rw d.0 (stops_left test g rest stop)))
@@ -120,12 +90,6 @@ module _ (effort : Effort) (test : Test) (g : Test) (apart : Apart test g) where
     again_back Q x zero w y c = inr c
     again_back Q x (suc n) w y c = inl (c.0, c.1, c.2, c.3, c.4, (n, c.5))
 
-    again_heads : (x : A) (n : ℕ) (w : List Token) (y : A) (rest : List Token) → f.repeated_of n C x w y → Stops h rest → Stops g (w ++ rest)
-    again_heads x zero w y rest c stop = rw c.0 (stops_right test g rest stop)
-    again_heads x (suc n) w y rest c stop =
-        let whole : w ++ rest ≡ c.0 ++ (c.1 ++ rest) = ap (λ (t : List Token). t ++ rest) c.3 ∙ append_assoc c.0 c.1 rest in
-        apart_stops test g apart (w ++ rest) (ap (passes test) whole ∙ heads x c.0 c.2 (c.1 ++ rest) c.4)
-
     repeated_turns : (n : ℕ) → n ≤ effort.turns → (x : A) → Exact (turns_of effort n) Any (f.repeated R x) (f.repeated C x) h (repeated test p n x)
     repeated_turns zero le x = record {
       found = λ s y s' pre e. absurd cc;
@@ -137,12 +101,12 @@ module _ (effort : Effort) (test : Test) (g : Test) (apart : Apart test g) where
         (exact_choose (turns_of effort (suc n)) test (f.◌>>=◌ (R x) (f.repeated R)) (f.◌>>=◌ (C x) (f.repeated C)) (nothing x) (nothing x) h
         (p x >>= repeated test p n) (pure x)
         (exact_bind_by (turns_of effort (suc n)) effort (turns_of effort n) (Passing test) (R x) (C x) g (p x) (f.repeated R) (f.repeated C) h (repeated test p n)
-        (fewer n le)
-        (λ a y s m c e same en. one_less n a s m (heads x a y [] c) e same en)
+        (fewer effort (suc n) le)
+        (λ a y s m c e same en. one_less effort test n a s m (heads x a y [] c) e same en)
         (ep x)
         (λ y. repeated_turns n (omega (arith, le)) y)
         (λ y. ([], y, (0, (refl, refl))))
-        (λ y b z rest d stop. again_heads y d.0 b z rest d.1 stop))
+        (λ y b z rest d stop. repeated_stop g C (λ x. heads_halts test g (C x) (heads x) apart) d.0 y b z rest d.1 (stops_right test g rest stop)))
         (weaken _ (exact_pure _ x h))
         (λ w y rest c. ap (λ (t : List Token). passes test (t ++ rest)) c.3 ∙ ap (passes test) (append_assoc c.0 c.1 rest) ∙ heads x c.0 c.2 (c.1 ++ rest) c.4)
         (λ w y rest d stop. rw d.0 (stops_left test g rest stop)))

@@ -118,6 +118,52 @@ silent_wrap place = record {
   lets = λ s s' e free is. (silent_above place s.height).lets s s' e free is;
 }
 
+pub silent_pure : IsSilent (pure tt)
+silent_pure = record {
+  keeps = λ s s' rest e. ap (λ (m : State). Found tt (at m rest)) (parts_found tt tt s s' e).1;
+  stays = λ s s' e. let is = (parts_found tt tt s s' e).1 in (ap (λ (m : State). m.rest) (sym is), ap (λ (m : State). m.before) (sym is), ap (λ (m : State). m.limited) (sym is));
+  accepts = λ s s' n e. cc;
+  lets = λ s s' fault free e. cc;
+}
+
+-- A silent step is silent beside what was read last.
+module _ (q : Reader (Unit {0})) (silent : IsSilent q) where
+  abbrev inside : State → State
+  inside s = record s { depth = s.depth }
+
+  abbrev left_of : ℕ → State → State
+  left_of height m = record m { depth = m.depth; height = max height m.height }
+
+  abbrev read_beside : Reader (Unit {0})
+  read_beside s = and_then (q (inside s)) (λ u m. Found u (left_of s.height m))
+
+  beside_found : (s s' : State) → read_beside s ≡ Found tt s' → (m : State) × (q (inside s) ≡ Found tt m) × (left_of s.height m ≡ s')
+  beside_found s s' e =
+      let c = bind_found (q (inside s)) (λ u m. Found u (left_of s.height m)) tt s' e in
+      (c.1, c.2, (parts_found c.0 tt (left_of s.height c.1) s' c.3).1)
+
+  beside_fails : (s s' : State) (fault : ParseFault) → read_beside s ≡ Failed fault s' → q (inside s) ≡ Failed fault s'
+  beside_fails s s' fault e =
+      elim (bind_refused (q (inside s)) (λ u m. Found u (left_of s.height m)) fault s' e) [
+        | inl c ↦ c
+        | inr c ↦ absurd cc
+      ]
+
+  pub silent_beside : IsSilent (beside q)
+  unfolding beside
+  silent_beside = record {
+    keeps = λ s s' rest e.
+        let c = beside_found s s' e in
+        ap (λ (o : Outcome (Unit {0})). and_then o (λ u m. Found u (left_of s.height m))) (silent.keeps (inside s) c.0 rest c.1)
+        ∙ ap (λ (m : State). Found tt (at m rest)) c.2;
+    stays = λ s s' e.
+        let c = beside_found s s' e in
+        let stays = silent.stays (inside s) c.0 c.1 in
+        (ap (λ (m : State). m.rest) (sym c.2) ∙ stays.0, ap (λ (m : State). m.before) (sym c.2) ∙ stays.1, ap (λ (m : State). m.limited) (sym c.2) ∙ stays.2);
+    accepts = λ s s' n e. silent.accepts (inside s) s' n (beside_fails s s' (Unexpected n) e);
+    lets = λ s s' fault free e. silent.lets (inside s) s' fault free (beside_fails s s' fault e);
+  }
+
 -- ---- at another depth
 
 module _ {effort : Effort} {A : Type 0} {Pre : List Token → Type 0} {R C : Form A} {g : Test} (into back : ℕ → ℕ) (above : ℕ → ℕ → ℕ) (p : Reader A) (ep : Exact effort Pre R C g p) where

@@ -5,9 +5,9 @@ use Rattle.cr_grammar.specs.Forms.{Form, place_of, from_first}
 use Rattle.cr_exact.specs.declared.fault.ParseFault.TheVariants.{Unexpected}
 use Rattle.cr_exact.specs.Reader.{State, Found, Failed, Reader, Test, ◌>>=◌, place_at, here}
 use Rattle.cr_exact.specs.Exact.{at, head, last_from, Stops, Effort, Enough, Ends, Finds, Refuses, Exact, Any}
-use Rattle.cr_exact.proofs.Sequence.{head-append, head-place}
+use Rattle.cr_exact.proofs.Sequence.{head-place, same-head}
 
-first_place : (w rest : List Token) → (w ≡ [] → ⊥) → place_at (w ++ rest) ≡ place_of w
+pub first_place : (w rest : List Token) → (w ≡ [] → ⊥) → place_at (w ++ rest) ≡ place_of w
 first_place [] rest real = absurd (real refl)
 first_place (t ∷ w) rest real = refl
 
@@ -19,7 +19,7 @@ module _ {effort : Effort} {A : Type 0} (R C : ℕ → Form A) (g : Test) (p : �
   now = here >>= p
 
   kept : (s s' : State) (front rest : List Token) → s.rest ≡ front ++ s'.rest → head rest ≡ head s'.rest → place_at (front ++ rest) ≡ place_at s.rest
-  kept s s' front rest parts same = head-place _ _ (head-append front rest s'.rest same) ∙ ap place_at (sym parts)
+  kept s s' front rest parts same = head-place _ _ (same-head s s' front rest parts same)
 
   here-found : (s : State) (x : A) (s' : State) → now s ≡ Found x s' → Finds (from_first R) now s x s'
   here-found s x s' e =

@@ -1,5 +1,5 @@
 -- One reader after another, none, and one under another condition or for another form.
-use Rattle.std.proofs.Common.{◌≡◌, ℕ, Bool, false, List, [], ◌∷◌, ◌++◌, length, ◌⊎◌, inl, inr, refl, sym, ap, subst, ◌∙◌, append_assoc, arith}
+use Rattle.std.proofs.Common.{◌≡◌, ℕ, Bool, List, [], ◌∷◌, ◌++◌, length, ◌⊎◌, inl, inr, refl, sym, ap, subst, ◌∙◌, append_assoc, arith}
 use Rattle.std.proofs.lemmas.List.{length-append}
 use Rattle.cr_syntax.specs.declared.look.TokenLook.{TokenLook}
 use Rattle.cr_syntax.specs.declared.token.Token.{Token}
@@ -10,12 +10,17 @@ use Rattle.cr_exact.specs.declared.fault.ParseFault.{ParseFault}
 use Rattle.cr_exact.specs.declared.fault.ParseFault.TheVariants.{Unexpected}
 use Rattle.cr_exact.specs.Reader.{State, Outcome, Found, Failed, Reader, and_then, ◌>>=◌, pure, Test, passes, place_at, look_at}
 use Rattle.cr_exact.specs.Exact.{at, head, last_from, Stops, Effort, Enough, Ends, Finds, Refuses, Exact, Any}
+use Rattle.cr_exact.proofs.TokenTests.{Less, stops_less}
 
 -- ---- heads and lasts
 
 pub head-append : (a b c : List Token) → head b ≡ head c → head (a ++ b) ≡ head (a ++ c)
 head-append [] b c h = h
 head-append (t ∷ a) b c h = refl
+
+-- the same ahead, where what follows begins alike
+pub same-head : (s s' : State) (front rest : List Token) → s.rest ≡ front ++ s'.rest → head rest ≡ head s'.rest → head (front ++ rest) ≡ head s.rest
+same-head s s' front rest parts same = head-append front rest s'.rest same ∙ ap head (sym parts)
 
 pub last-append : (before : TokenLook) (a b : List Token) → last_from before (a ++ b) ≡ last_from (last_from before a) b
 last-append before [] b = refl
@@ -192,12 +197,9 @@ exact_map S D out back e = record {
 
 -- where it may go on by more
 pub exact_goes : {effort : Effort} {A : Type 0} {Pre : List Token → Type 0} {R C : Form A} {g : Test} {p : Reader A} (h : Test)
-    → ((look : TokenLook) (spaced : Bool) → h look spaced ≡ false → g look spaced ≡ false) → Exact effort Pre R C g p → Exact effort Pre R C h p
+    → Less g h → Exact effort Pre R C g p → Exact effort Pre R C h p
 exact_goes {g = g} h less e = record {
   found = e.found;
   refused = e.refused;
-  complete = λ w x s rest pre c is stop. e.complete w x s rest pre c is (stops_less rest stop);
-} where
-  stops_less : (rest : List Token) → Stops h rest → Stops g rest
-  stops_less [] stop = refl
-  stops_less (t ∷ ts) stop = less (look_of t.kind) t.spaced stop
+  complete = λ w x s rest pre c is stop. e.complete w x s rest pre c is (stops_less g h less rest stop);
+}

@@ -1,16 +1,17 @@
 -- Readers of one token, and readers chosen by the next one.
-use Rattle.std.proofs.Common.{◌≡◌, ℕ, Bool, true, false, cond, List, [], ◌∷◌, ◌++◌, Option, Some, None, ◌⊎◌, inl, inr, refl, sym, ap, subst, ◌∙◌, rules}
-use denote.Enum.Bare.{same_true, true_same}
-use Rattle.cr_syntax.specs.contracts.look.TokenLook.{the_type}
+use Rattle.std.proofs.Common.{◌≡◌, ℕ, Bool, true, false, cond, List, [], ◌∷◌, ◌++◌, Option, Some, None, ◌⊎◌, inl, inr, refl, sym, ap, subst, ◌∙◌}
 use Rattle.cr_syntax.specs.declared.look.TokenLook.{TokenLook}
+use Rattle.cr_syntax.specs.declared.look.TokenLook.TheVariants as l
 use Rattle.cr_syntax.specs.declared.token.Token.{Token}
 use Rattle.cr_syntax.specs.declared.token.TokenKind.{TokenKind}
 use Rattle.cr_syntax.specs.Look.{look_of}
 use Rattle.cr_grammar.specs.Forms.{Form, ◌<|>◌, one, word, Word, holding, where_true}
 use Rattle.cr_exact.specs.declared.fault.ParseFault.TheVariants.{Unexpected}
-use Rattle.cr_exact.specs.Reader.{State, Outcome, Found, Failed, Reader, Test, passes, place_at, look_at, next, tail, read_by, same_look, refuse, taken, take, place_if, word_read, worded, expect, holder, choose, only, by_look, allow}
+use Rattle.cr_exact.specs.Reader.{State, Outcome, Found, Failed, Reader, Test, passes, place_at, look_at, next, tail, read_by, refuse, taken, take, place_if, word_read, worded, expect, holder, choose, only, by_look, allow}
 use Rattle.cr_exact.specs.Exact.{at, head, last_from, Stops, Effort, Enough, Ends, Finds, Refuses, Exact, Any}
-use Rattle.cr_exact.proofs.Sequence.{head-append, head-passes, head-place, head-look, parts_found}
+use Rattle.std.proofs.lemmas.List.{append-nil}
+use Rattle.cr_exact.proofs.TokenTests.{same_look_is, look_is_same, clash}
+use Rattle.cr_exact.proofs.Sequence.{head-passes, head-place, head-look, parts_found, exact_map, same-head, weaken}
 
 -- ---- refusals
 
@@ -86,17 +87,9 @@ module _ (effort : Effort) {A : Type 0} (P : Token → A → Type 0) (g : Test) 
 
 -- ---- a word
 
-place_out : (b : Bool) (t : Token) (at : ℕ) → place_if b t ≡ Some at → (b ≡ true) × (at ≡ t.span.first)
+pub place_out : (b : Bool) (t : Token) (at : ℕ) → place_if b t ≡ Some at → (b ≡ true) × (at ≡ t.span.first)
 place_out true t at e = (refl, cc)
 place_out false t at e = absurd cc
-
-pub same_look_is : (a b : TokenLook) → same_look a b ≡ true → a ≡ b
-unfolding same_look
-same_look_is a b e = same_true the_type (search rules) a b e
-
-pub look_is_same : (a b : TokenLook) → a ≡ b → same_look a b ≡ true
-unfolding same_look
-look_is_same a b e = true_same the_type a b e
 
 abbrev pub a_token : TokenKind → Token
 a_token kind = record { kind = kind; span = record { first = 0; past = 0 }; spaced = false }
@@ -110,7 +103,7 @@ exact_word effort kind g = exact_take effort (λ t at. (look_of t.kind ≡ look_
 
 -- ---- a token that holds a text
 
-some_one : {A : Type 0} (x y : A) → let some : A → Option A = Some in some x ≡ some y → x ≡ y
+pub some_one : {A : Type 0} (x y : A) → let some : A → Option A = Some in some x ≡ some y → x ≡ y
 some_one x y e = cc
 
 held_out : (t : Token) (o : Option (List ℕ)) (x : Word) → worded t o ≡ Some x → (o ≡ Some x.text) × (x.at ≡ t.span.first)
@@ -140,17 +133,14 @@ Passing test ts = passes test ts ≡ true
 abbrev pub Failing : Test → List Token → Type 0
 Failing test ts = passes test ts ≡ false
 
-chosen : {A : Type 0} (b : Bool) (p q : Reader A) (s : State) (r : Outcome A) → cond b p q s ≡ r → ((b ≡ true) × (p s ≡ r)) ⊎ ((b ≡ false) × (q s ≡ r))
+pub chosen : {A : Type 0} (b : Bool) (p q : Reader A) (s : State) (r : Outcome A) → cond b p q s ≡ r → ((b ≡ true) × (p s ≡ r)) ⊎ ((b ≡ false) × (q s ≡ r))
 chosen true p q s r e = inl (refl, e)
 chosen false p q s r e = inr (refl, e)
 
-chosen_ends : {A : Type 0} (b : Bool) (p q : Reader A) (s : State) (enough : Type 0) (x : A) (before : TokenLook) (rest : List Token) (limited : Bool)
+pub chosen_ends : {A : Type 0} (b : Bool) (p q : Reader A) (s : State) (enough : Type 0) (x : A) (before : TokenLook) (rest : List Token) (limited : Bool)
     → (b ≡ true → Ends enough (p s) x before rest limited) → (b ≡ false → Ends enough (q s) x before rest limited) → Ends enough (cond b p q s) x before rest limited
 chosen_ends true p q s enough x before rest limited u v = u refl
 chosen_ends false p q s enough x before rest limited u v = v refl
-
-pub clash : {b : Bool} → b ≡ false → b ≡ true → ⊥
-clash f t = cc
 
 module _ (effort : Effort) {A : Type 0} (test : Test) (R C Q D : Form A) (g : Test) (p q : Reader A)
     (ep : Exact effort (Passing test) R C g p) (eq : Exact effort (Failing test) Q D g q)
@@ -160,7 +150,7 @@ module _ (effort : Effort) {A : Type 0} (test : Test) (R C Q D : Form A) (g : Te
   now = choose test p q
 
   kept : (s s' : State) (front rest : List Token) → s.rest ≡ front ++ s'.rest → head rest ≡ head s'.rest → passes test (front ++ rest) ≡ passes test s.rest
-  kept s s' front rest parts same = head-passes test _ _ (head-append front rest s'.rest same) ∙ ap (passes test) (sym parts)
+  kept s s' front rest parts same = head-passes test _ _ (same-head s s' front rest parts same)
 
   choose-found : (s : State) (x : A) (s' : State) → now s ≡ Found x s' → Finds (R <|> Q) now s x s'
   choose-found s x s' e =
@@ -249,7 +239,7 @@ module _ (effort : Effort) {A : Type 0} (by : TokenLook → Reader A) (R : Form 
     (branch : (look : TokenLook) → Branch effort look R (C look) g (by look))
     (w0 : List Token) (x0 : A) (some : R w0 x0) where
   same_ahead : (s s' : State) (front rest : List Token) → s.rest ≡ front ++ s'.rest → head rest ≡ head s'.rest → look_at (front ++ rest) ≡ look_at s.rest
-  same_ahead s s' front rest parts same = head-look _ _ (head-append front rest s'.rest same) ∙ ap look_at (sym parts)
+  same_ahead s s' front rest parts same = head-look _ _ (same-head s s' front rest parts same)
 
   by-found : (s : State) (x : A) (s' : State) → by_look by s ≡ Found x s' → Finds R (by_look by) s x s'
   by-found s x s' e =
@@ -303,58 +293,65 @@ module _ (effort : Effort) {A : Type 0} (by : TokenLook → Reader A) (R : Form 
     complete = λ w x s rest pre c e stop. by-complete w x s rest c e stop;
   }
 
+-- What is spelled, and is no empty list, begins with the token that comes.
+led_from : (look : TokenLook) (ts w rest : List Token) → look_at ts ≡ look → ts ≡ w ++ rest → (w ≡ [] → ⊥) → Led look w
+led_from _ ts [] rest is e real = absurd (real refl)
+led_from _ ts (t ∷ w) rest is e real = (t, w, refl, sym (ap look_at e) ∙ is)
+
+-- More may be spelled that begins with another token.
+pub exact_looks : {effort : Effort} {A : Type 0} {R C : Form A} {g : Test} {p : Reader A} (look : TokenLook) (D : Form A)
+    → ((w : List Token) (x : A) → D w x → w ≡ [] → ⊥) → ((w : List Token) (x : A) → Led look w → D w x → C w x)
+    → Exact effort Any R C g p → Exact effort (Looks look) R D g p
+exact_looks look D real back ep = record {
+  found = λ s x s' pre e. ep.found s x s' tt e;
+  refused = λ s n s' pre e. ep.refused s n s' tt e;
+  complete = λ w x s rest pre c e stop. ep.complete w x s rest tt (back w x (led_from look s.rest w rest pre e (real w x c)) c) e stop;
+}
+
+pub led_one : (a c : TokenLook) (w : List Token) → Led a w → Led c w → a ≡ c
+led_one a c w first second =
+    let same : first.0 ∷ first.1 ≡ second.0 ∷ second.1 = sym first.2 ∙ second.2 in
+    let token : first.0 ≡ second.0 = cc in
+    sym first.3 ∙ ap (λ (t : Token). look_of t.kind) token ∙ second.3
+
+-- What an exact reader refuses at once begins nothing that is spelled.
+pub never_begins : {effort : Effort} {A : Type 0} {R C : Form A} {g : Test} (p : Reader A) → Exact effort Any R C g p
+    → (look : TokenLook) → ((s : State) → look_at s.rest ≡ look → p s ≡ refuse s) → (w : List Token) (x : A) → C w x → look_at w ≡ look → ⊥
+never_begins {effort = effort} p ep found refuses w x c is =
+    let s : State = record { before = l.Newline; rest = w; depth = 0; nodes = 0; height = 0; limited = false } in
+    let ends = ep.complete w x s [] tt c (sym (append-nil w)) refl in
+    (subst (λ o. Ends (Enough effort s) o x (last_from l.Newline w) [] false) (refuses s is) ends).0
+
 -- ---- where a condition holds that has nothing to do with the tokens
 
-pub branch_allowed : {effort : Effort} {A : Type 0} (look : TokenLook) (b : Bool) (R C : Form A) (g : Test) (p : Reader A)
-    → Exact effort (Looks look) R C g p → Branch effort look R (where_true b C) g (allow b p)
-branch_allowed seen true R C g p e = inl (record { found = e.found; refused = e.refused; complete = λ w x s rest pre c. e.complete w x s rest pre c.1 })
-branch_allowed seen false R C g p e = inr (refl, λ w x led c. clash refl c.0)
+pub branch_where : {effort : Effort} {A : Type 0} (look : TokenLook) (c : Bool) (R C : Form A) (g : Test) (p : Reader A)
+    → (c ≡ true → Exact effort (Looks look) R C g p) → Branch effort look R (where_true c C) g (allow c p)
+branch_where _ true R C g p e =
+    let ep = e refl in
+    inl (record { found = ep.found; refused = ep.refused; complete = λ w x s rest pre c. ep.complete w x s rest pre c.1 })
+branch_where _ false R C g p e = inr (refl, λ w x led c. clash refl c.0)
+
+-- What refuses at once is exact for a form, of which nothing need be found.
+pub exact_refuse : (effort : Effort) {A : Type 0} (R : Form A) (goes : Test) (w : List Token) (x : A) → R w x → Exact effort Any R (λ v y. ⊥) goes refuse
+exact_refuse effort {A = A} R goes w x some = record {
+  found = λ s y s' pre e. absurd (not_found s y s' e);
+  refused = λ s n s' pre e. refuses_here R refuse s s' n w x some (refusal_is {A = A} s s' n e) (λ rest same. refl);
+  complete = λ v y s rest pre c. absurd c;
+}
+
+-- exact where a condition holds that has nothing to do with the tokens, and else it refuses
+pub exact_allow : (effort : Effort) {A : Type 0} (condition : Bool) (R C : Form A) (goes : Test) (p : Reader A) (w : List Token) (x : A) → R w x
+    → (condition ≡ true → Exact effort Any R C goes p) → Exact effort Any R (where_true condition C) goes (allow condition p)
+exact_allow effort true R C goes p w x some ep = exact_map R (where_true true C) (λ v y c. c) (λ v y c. c.1) (ep refl)
+exact_allow effort false R C goes p w x some ep = exact_map R (where_true false C) (λ v y c. c) (λ v y c. clash refl c.0) (exact_refuse effort R goes w x some)
 
 -- ---- only where the next token passes a test
 
-module _ {effort : Effort} {A : Type 0} (test : Test) {R C : Form A} {g : Test} (p : Reader A) (ep : Exact effort (Passing test) R C g p)
-    (heads : (w : List Token) (x : A) (rest : List Token) → C w x → passes test (w ++ rest) ≡ true) (w0 : List Token) (x0 : A) (some : R w0 x0) where
-  only-found : (s : State) (x : A) (s' : State) → only test p s ≡ Found x s' → Finds R (only test p) s x s'
-  only-found s x s' e =
-      elim (chosen (passes test s.rest) p refuse s (Found x s') e) [
-        | inl c ↦
-            let F = ep.found s x s' c.0 c.1 in
-            record {
-              front = F.front;
-              parts = F.parts;
-              ends = F.ends;
-              spelled = F.spelled;
-              again = λ rest same. ap (λ b. cond b p refuse (at s (F.front ++ rest)))
-                  (head-passes test _ _ (head-append F.front rest s'.rest same) ∙ ap (passes test) (sym F.parts) ∙ c.0) ∙ F.again rest same;
-            }
-        | inr c ↦ absurd (not_found s x s' c.1)
-      ]
-
-  only-refused : (s : State) (n : ℕ) (s' : State) → only test p s ≡ Failed (Unexpected n) s' → Refuses R (only test p) s n s'
-  only-refused s n s' e =
-      elim (chosen (passes test s.rest) p refuse s (Failed (Unexpected n) s') e) [
-        | inl c ↦
-            let F = ep.refused s n s' c.0 c.1 in
-            record {
-              front = F.front;
-              parts = F.parts;
-              place = F.place;
-              more = F.more;
-              value = F.value;
-              begins = F.begins;
-              again = λ rest same. ap (λ b. cond b p refuse (at s (F.front ++ rest)))
-                  (head-passes test _ _ (head-append F.front rest s'.rest same) ∙ ap (passes test) (sym F.parts) ∙ c.0) ∙ F.again rest same;
-            }
-        | inr c ↦
-            refuses_here R (only test p) s s' n w0 x0 some (refusal_is {A = A} s s' n c.1)
-            (λ rest same. ap (λ b. cond b p refuse (at s rest)) (head-passes test rest s.rest same ∙ c.0))
-      ]
-
-  pub exact_only : Exact effort Any R C g (only test p)
-  exact_only = record {
-    found = λ s x s' pre e. only-found s x s' e;
-    refused = λ s n s' pre e. only-refused s n s' e;
-    complete = λ w x s rest pre c e stop.
-        let is : passes test s.rest ≡ true = ap (passes test) e ∙ heads w x rest c in
-        chosen_ends (passes test s.rest) p refuse s _ x _ rest _ (λ t. ep.complete w x s rest is c e stop) (λ f. absurd (clash f is));
-  }
+pub exact_only : {effort : Effort} {A : Type 0} (test : Test) {R C : Form A} {g : Test} (p : Reader A) → Exact effort (Passing test) R C g p
+    → ((w : List Token) (x : A) (rest : List Token) → C w x → passes test (w ++ rest) ≡ true) → (w0 : List Token) (x0 : A) → R w0 x0 → Exact effort Any R C g (only test p)
+exact_only {effort = effort} {A = A} test {R = R} {C = C} {g = g} p ep heads w0 x0 some =
+    exact_map R C either_way (λ w x c. inl c)
+    (exact_choose effort test R C R (λ w x. ⊥) g p refuse ep (weaken _ (exact_refuse effort R g w0 x0 some)) heads (λ w x rest d stop. absurd d)) where
+      either_way : (w : List Token) (x : A) → (R <|> R) w x → R w x
+      either_way w x (inl c) = c
+      either_way w x (inr c) = c

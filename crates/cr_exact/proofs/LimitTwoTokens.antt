@@ -8,8 +8,9 @@ use Rattle.cr_exact.specs.declared.fault.ParseFault.{ParseFault}
 use Rattle.cr_exact.specs.Reader.{State, Found, Failed, Reader, Test}
 use Rattle.cr_exact.specs.Exact.{head, Stops, Any}
 use Rattle.cr_exact.specs.Limits.{Tally, Counted, limit_at, Beyond, AtMost, Halts, Counts}
-use Rattle.cr_exact.proofs.Tokens.{clash}
-use Rattle.cr_descent.proofs.Commands.{Settled, settled_same, tells, chosen}
+use Rattle.cr_exact.proofs.TokenTests.{clash}
+use Rattle.cr_exact.proofs.Tokens.{chosen}
+use Rattle.cr_exact.proofs.TwoTokens.{Settled, settled_same, tells}
 
 -- K is spelled by what begins an argument, Q by nothing or by an operator and what follows it.
 module _ (K Q : Form Tree) (g : Test) (p q : Reader Tree) {from : Tally} {to : Tree → Tally} (cp : Counts Any K g from to p) (cq : Counts Any Q g from to q)

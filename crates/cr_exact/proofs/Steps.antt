@@ -1,30 +1,26 @@
 -- Readers one after another: what is read exactly, that some list spells it, and by what it begins.
-use Rattle.std.proofs.Common.{◌≡◌, ℕ, Bool, true, false, cond, List, [], ◌∷◌, ◌++◌, inl, inr, refl, sym, ap, subst, ◌∙◌, append_assoc}
-use Rattle.std.specs.Prelude.{IsTrue, Option, Some, None, not}
+use Rattle.std.proofs.Common.{◌≡◌, ℕ, Bool, true, false, List, [], ◌∷◌, ◌++◌, inl, inr, refl, sym, ap, subst, ◌∙◌}
+use Rattle.std.specs.Prelude.{Option, Some, None, not}
 use Rattle.cr_syntax.specs.declared.look.TokenLook.{TokenLook}
 use Rattle.cr_syntax.specs.declared.look.TokenLook.TheVariants as l
 use Rattle.cr_syntax.specs.declared.token.Token.{Token}
 use Rattle.cr_syntax.specs.declared.token.TokenKind.{TokenKind}
-use Rattle.cr_syntax.specs.declared.token.TokenKind.TheVariants as k
 use Rattle.cr_syntax.specs.Look.{look_of}
 use Rattle.cr_grammar.specs.Forms.{Form, nothing, word}
 use Rattle.cr_grammar.specs.Forms as f
-use Rattle.cr_grammar.specs.Laws.{first_is}
-use Rattle.cr_exact.specs.Reader.{Reader, Test, passes, either, never, seen, tight_seen, same_look, expect, choose, many, grow, part, pure, ◌>>=◌, ◌>>◌}
+use Rattle.cr_exact.specs.Reader.{Reader, Test, passes, either, never, seen, tight_seen, expect, choose, many, grow, part, pure, ◌>>=◌, ◌>>◌, beside}
 use Rattle.cr_exact.specs.Lists.{optional, separators, listed}
 use Rattle.cr_exact.specs.Exact.{Stops, Effort, Exact, Any}
+use Rattle.cr_exact.proofs.TokenTests.{same_look_is, stops_right, At, seen_apart, never_stops, Not}
 use Rattle.cr_exact.proofs.Sequence.{exact_bind, exact_pure, exact_map, exact_goes, weaken}
-use Rattle.cr_exact.proofs.Tokens.{Passing, clash, same_look_is, look_is_same, a_token, exact_word, exact_choose}
-use Rattle.cr_exact.proofs.Loops.{Apart, apart_stops, stops_right, exact_many}
-use Rattle.cr_exact.proofs.Nodes.{silent_grow, exact_silent, exact_part}
-use Rattle.cr_descent.specs.Compounds.{some_of}
-use Rattle.cr_descent.proofs.Lists.{Not, exact_separators, exact_listed, exact_optional, exact_passing}
+use Rattle.cr_exact.proofs.Tokens.{Passing, a_token, exact_word, exact_choose}
+use Rattle.cr_exact.proofs.Forms.{Spelled, spelled_seps, spelled_listed}
+use Rattle.cr_exact.proofs.Heads.{first_word, many_stop, heads_halts, front_of, first_at}
+use Rattle.cr_exact.proofs.Loops.{exact_many}
+use Rattle.cr_exact.proofs.Nodes.{silent_grow, exact_silent, exact_part, exact_beside}
+use Rattle.cr_exact.proofs.Lists.{exact_separators, exact_listed, exact_optional, tight_heads}
 
 -- ---- the first token
-
--- all tokens of this look pass, or none does
-abbrev pub At : Bool → TokenLook → Test → Type 0
-At v a g = (spaced : Bool) → g a spaced ≡ v
 
 -- What is spelled begins with a token that passes the test, or with one that does not.
 pub record Starts (v : Bool) (g : Test) {A : Type 0} (C : Form A) : Type 0 where
@@ -34,16 +30,8 @@ pub record Starts (v : Bool) (g : Test) {A : Type 0} (C : Form A) : Type 0 where
 abbrev pub Begins : Test → {A : Type 0} → Form A → Type 0
 Begins g C = Starts false g C
 
-pub stops_never : (ts : List Token) → Stops never ts
-stops_never [] = refl
-stops_never (t ∷ ts) = refl
-
--- a first token of a look
-first_at : (v : Bool) (a : TokenLook) (g : Test) → At v a g → (t : Token) (ts : List Token) → look_of t.kind ≡ a → passes g (t ∷ ts) ≡ v
-first_at v a g at t ts is = ap (λ b. g b t.spaced) is ∙ at t.spaced
-
 pub starts_word : {v : Bool} (a : TokenLook) {g : Test} → At v a g → Starts v g (word a)
-starts_word {v = v} a {g = g} at = record { first = λ w x rest c. ap (λ (u : List Token). passes g (u ++ rest)) c.1 ∙ first_at v a g at c.0 rest c.2.0 }
+starts_word {v = v} a {g = g} at = record { first = λ w x rest c. first_word v a g at w x rest c }
 
 -- a token that holds a text
 pub starts_holding : {v : Bool} {g : Test} (kind : List ℕ → TokenKind) (a : TokenLook) → ((text : List ℕ) → look_of (kind text) ≡ a) → At v a g
@@ -51,10 +39,6 @@ pub starts_holding : {v : Bool} {g : Test} (kind : List ℕ → TokenKind) (a : 
 starts_holding {v = v} {g = g} kind a is at = record {
   first = λ w x rest c. ap (λ (u : List Token). passes g (u ++ rest)) c.1 ∙ first_at v a g at c.0 rest (ap look_of c.2.0 ∙ is x.text);
 }
-
--- the first tokens of a list in two parts
-front_of : (v : Bool) (g : Test) (w a b rest : List Token) → w ≡ a ++ b → passes g (a ++ (b ++ rest)) ≡ v → passes g (w ++ rest) ≡ v
-front_of v g w a b rest is e = ap (λ (u : List Token). passes g (u ++ rest)) is ∙ ap (passes g) (append_assoc a b rest) ∙ e
 
 -- of which the first is empty
 behind_none : (v : Bool) (g : Test) (w a b rest : List Token) → w ≡ a ++ b → a ≡ [] → passes g (b ++ rest) ≡ v → passes g (w ++ rest) ≡ v
@@ -107,14 +91,7 @@ starts_many {v = v} {g = g} {B = B} {C = C} D one second = record { first = λ w
 
 -- a first token that is tight
 pub starts_tight : {A : Type 0} {C : Form A} (a : TokenLook) → Starts true (seen a) C → Starts true (tight_seen a) (f.tight C)
-starts_tight {A = A} {C = C} a one = record { first = go } where
-  both : (spaced found : Bool) → IsTrue (not spaced) → found ≡ true → cond spaced false found ≡ true
-  both true found is e = absurd cc
-  both false found is e = e
-
-  go : (w : List Token) (x : A) (rest : List Token) → f.tight C w x → passes (tight_seen a) (w ++ rest) ≡ true
-  go [] x rest c = absurd cc
-  go (t ∷ ts) x rest c = both t.spaced _ c.0 (one.first (t ∷ ts) x rest c.1)
+starts_tight {C = C} a one = record { first = tight_heads a C one.first }
 
 -- by a look at which the test is known
 pub starts_led : {A : Type 0} {C : Form A} (a : TokenLook) (v : Bool) (g : Test) → At v a g → Starts true (seen a) C → Starts v g C
@@ -123,82 +100,11 @@ starts_led {A = A} {C = C} a v g at one = record { first = λ w x rest c. go (w 
   go [] is = absurd cc
   go (t ∷ ts) is = first_at v a g at t ts (same_look_is _ _ is)
 
--- a first token that passes one test, and so another
-pub first_passes : (test : TokenLook → Bool) (g : Test) → ((a : TokenLook) (spaced : Bool) → test a ≡ true → g a spaced ≡ true)
-    → (w rest : List Token) → first_is test w ≡ true → passes g (w ++ rest) ≡ true
-first_passes test g same [] rest is = absurd cc
-first_passes test g same (t ∷ ts) rest is = same (look_of t.kind) t.spaced is
-
--- a first token that passes one test, and so does not pass another
-pub first_stops : (test : TokenLook → Bool) (g : Test) → ((a : TokenLook) (spaced : Bool) → test a ≡ true → g a spaced ≡ false)
-    → (w rest : List Token) → first_is test w ≡ true → Stops g (w ++ rest)
-first_stops test g other [] rest is = absurd cc
-first_stops test g other (t ∷ ts) rest is = other (look_of t.kind) t.spaced is
-
--- What passes a test that this look does not pass is not of this look.
-pub not_seen : (a : TokenLook) (test : TokenLook → Bool) → test a ≡ false → (b : TokenLook) (spaced : Bool) → test b ≡ true → seen a b spaced ≡ false
-not_seen a test not b spaced is = decide (same_look b a) refl where
-  decide : (v : Bool) → same_look b a ≡ v → same_look b a ≡ false
-  decide false e = e
-  decide true e = absurd (clash not (ap test (sym (same_look_is b a e)) ∙ is))
-
--- one look is not another
-pub other_look : (a b : TokenLook) → (a ≡ b → ⊥) → Not a (seen b)
-other_look a b other spaced = decide (same_look a b) refl where
-  decide : (v : Bool) → same_look a b ≡ v → same_look a b ≡ false
-  decide false e = e
-  decide true e = absurd (other (same_look_is a b e))
-
-pub not_either : {a : TokenLook} (g h : Test) → Not a g → Not a h → Not a (either g h)
-not_either {a = a} g h one other spaced = ap (λ b. cond b true (h a spaced)) (one spaced) ∙ other spaced
-
--- no token of this look passes
-pub seen_apart : (a : TokenLook) (g : Test) → Not a g → Apart (seen a) g
-seen_apart a g not b spaced is = ap (λ v. g v spaced) (same_look_is b a is) ∙ not spaced
-
--- what begins somehow has a token
-pub starts_real : {g : Test} {A : Type 0} {C : Form A} → Starts true g C → (w : List Token) (x : A) → C w x → w ≡ [] → ⊥
-starts_real {g = g} one w x c none = no_token (sym (ap (λ (v : List Token). passes g (v ++ [])) none) ∙ one.first w x [] c) where
-  no_token : false ≡ true → ⊥
-  no_token e = cc
-
--- a token of the look itself
-pub at_seen : (a : TokenLook) → At true a (seen a)
-at_seen a spaced = look_is_same a a refl
-
--- ---- what some list spells
-
-abbrev pub Somehow : {A : Type 0} → Form A → Type 0
-Somehow {A} R = (w : List Token) × (x : A) × R w x
-
-abbrev pub somehow_bind : {A B : Type 0} {R : Form A} {S : A → Form B} → Somehow R → ((x : A) → Somehow (S x)) → Somehow (f.◌>>=◌ R S)
-somehow_bind r s = let t = s r.1 in (r.0 ++ t.0, t.1, (r.0, t.0, r.1, refl, r.2, t.2))
-
-abbrev pub somehow_word : (kind : TokenKind) → Somehow (word (look_of kind))
-somehow_word kind = (a_token kind ∷ [], 0, (a_token kind, refl, (refl, refl)))
-
-abbrev pub somehow_nothing : {A : Type 0} (x : A) → Somehow (nothing x)
-somehow_nothing x = ([], x, (refl, refl))
-
-abbrev pub somehow_seps : Somehow f.seps
-somehow_seps = ([], tt, ([], [], [], refl, refl, (refl, refl)))
-
-pub somehow_listed : {A : Type 0} {R : Form A} → Somehow R → Somehow (f.listed R)
-somehow_listed {R = R} r = somehow_bind r (λ x. somehow_bind {R = f.many (f.◌>>=◌ f.comma (λ _. R))} ([], [], refl) (λ xs. somehow_nothing (x ∷ xs)))
-
-abbrev pub somehow_parenthesized : {A : Type 0} {R : Form A} → Somehow R → Somehow (f.parenthesized R)
-somehow_parenthesized {R = R} r =
-    somehow_bind (somehow_word k.OpenParenthesis) (λ _. somehow_bind somehow_seps
-    (λ _. somehow_bind r (λ x. somehow_bind somehow_seps (λ _. somehow_bind (somehow_word k.CloseParenthesis) (λ _. somehow_nothing x)))))
-
-pub somehow_stmts : {A : Type 0} (R : Form A) → Somehow (f.stmts R)
-somehow_stmts R = ([], [], ([], [], tt, refl, somehow_seps.2, ([], [], [], refl, inr (refl, refl), ([], [], tt, refl, somehow_seps.2, (refl, refl)))))
-
 -- ---- one after the other
 
 -- read exactly, and spelled by some list
 abbrev pub Reads : Effort → {A : Type 0} → Form A → Form A → Test → Reader A → Type 0
-Reads effort R C g p = Exact effort Any R C g p × Somehow R
+Reads effort R C g p = Exact effort Any R C g p × Spelled R
 
 pub reads_word : (effort : Effort) (kind : TokenKind) (g : Test) → Reads effort (word (look_of kind)) (word (look_of kind)) g (expect (look_of kind))
 reads_word effort kind g = (exact_word effort kind g, (a_token kind ∷ [], 0, (a_token kind, refl, (refl, refl))))
@@ -207,15 +113,18 @@ pub reads_pure : (effort : Effort) {A : Type 0} (x : A) (g : Test) → Reads eff
 reads_pure effort x g = (exact_pure effort x g, ([], x, (refl, refl)))
 
 pub reads_separators : (effort : Effort) → Reads effort f.seps f.seps (seen l.Newline) (separators effort.turns)
-reads_separators effort = (exact_separators effort, somehow_seps)
+reads_separators effort = (exact_separators effort, spelled_seps)
 
 pub reads_listed : {effort : Effort} {A : Type 0} {R C : Form A} {g : Test} {p : Reader A} → Not l.Comma g → Begins (seen l.Newline) C → Reads effort R C g p
     → Reads effort (f.listed R) (f.listed C) (either (seen l.Comma) g) (listed effort.turns p)
 reads_listed {effort = effort} {R = R} {C = C} {g = g} {p = p} not lineless e =
-    (exact_listed effort R C g p e.0 lineless.first e.1.0 e.1.1 e.1.2 (seen_apart l.Comma g not), somehow_listed e.1)
+    (exact_listed effort R C g p e.0 lineless.first e.1.0 e.1.1 e.1.2 (seen_apart l.Comma g not), spelled_listed e.1)
 
 pub reads_part : {effort : Effort} {A : Type 0} {R C : Form A} {g : Test} {p : Reader A} → Reads effort R C g p → Reads effort R C g (part p)
 reads_part {p = p} e = (exact_part p e.0, e.1)
+
+pub reads_beside : {effort : Effort} {A : Type 0} {R C : Form A} {g : Test} {p : Reader A} → Reads effort R C g p → Reads effort R C g (beside p)
+reads_beside {p = p} e = (exact_beside p e.0, e.1)
 
 pub reads_grow : {effort : Effort} {A : Type 0} {R C : Form A} {g : Test} {p : Reader A} (place : ℕ) → Reads effort R C g p → Reads effort R C g (grow place >> p)
 reads_grow {p = p} place e = (exact_silent (grow place) (silent_grow place) p e.0, e.1)
@@ -233,7 +142,7 @@ reads_bind {S = S} {D = D} {h = h} {q = q} first second begins = (
 pub reads_sure : {effort : Effort} {A B : Type 0} {R C : Form A} {p : Reader A} {S D : A → Form B} {h : Test} {q : A → Reader B}
     → Reads effort R C never p → ((x : A) → Reads effort (S x) (D x) h (q x))
     → Reads effort (f.◌>>=◌ R S) (f.◌>>=◌ C D) h (p >>= q)
-reads_sure first second = reads_bind first second (λ x. record { first = λ b y rest d. stops_never (b ++ rest) })
+reads_sure first second = reads_bind first second (λ x. record { first = λ b y rest d. never_stops (b ++ rest) })
 
 -- a value made of what was read
 pub reads_map : {effort : Effort} {A B : Type 0} {R C : Form A} {g : Test} {p : Reader A} (make : A → B)
@@ -281,28 +190,6 @@ pub reads_optional : {effort : Effort} {A : Type 0} {R C : Form A} {g : Test} {p
     → Reads effort (f.maybe R) (f.maybe C) (either test g) (optional test p)
 reads_optional {effort = effort} {R = R} {C = C} {g = g} {p = p} test heads e = (exact_optional effort R C g p e.0 test heads.first, ([], None, refl))
 
--- any tight token
-abbrev tight_only : Test
-tight_only a spaced = not spaced
-
-tight_same : (w : List Token) → passes tight_only w ≡ f.is_tight w
-tight_same [] = refl
-tight_same (t ∷ ts) = refl
-
-tight_of : (a : TokenLook) (ts : List Token) → passes (tight_seen a) ts ≡ true → passes tight_only ts ≡ true
-tight_of a [] is = absurd cc
-tight_of a (t ∷ ts) is = not_spaced t.spaced _ is where
-  not_spaced : (spaced found : Bool) → cond spaced false found ≡ true → not spaced ≡ true
-  not_spaced true found e = absurd cc
-  not_spaced false found e = refl
-
--- behind a tight token of a look
-pub exact_tight : {effort : Effort} {A : Type 0} {R C : Form A} {g : Test} {p : Reader A} (a : TokenLook) → Starts true (seen a) R
-    → (w : List Token) (x : A) → R w x → f.is_tight w ≡ true → Exact effort Any R C g p → Exact effort (Passing (tight_seen a)) (f.tight R) (f.tight C) g p
-exact_tight {R = R} {C = C} a heads w x some is e =
-    exact_map (f.tight R) (f.tight C) (λ v y c. (sym (tight_same v) ∙ c.0, c.1)) (λ v y c. (tight_same v ∙ c.0, c.1))
-    (exact_passing (Passing (tight_seen a)) tight_only (tight_of a) (starts_real heads) w x some (tight_same w ∙ is) e)
-
 -- ---- loops
 
 pub reads_many : {effort : Effort} {A : Type 0} {R C : Form A} {g : Test} {p : Reader A} (a : TokenLook) → Not a g → Starts true (seen a) C → Reads effort R C g p
@@ -310,21 +197,14 @@ pub reads_many : {effort : Effort} {A : Type 0} {R C : Form A} {g : Test} {p : R
 reads_many {effort = effort} {R = R} {C = C} {g = g} {p = p} a not heads e =
     (exact_many effort (seen a) g (seen_apart a g not) R C p (weaken _ e.0) heads.first, ([], [], refl))
 
--- what follows the first of a list
-many_stops : {A : Type 0} (C : Form A) (g : Test) (a : TokenLook) → Not a g → Starts true (seen a) C → (xs : List A) (w rest : List Token) → f.many C w xs
-    → Stops (either (seen a) g) rest → Stops g (w ++ rest)
-many_stops C g a not heads [] w rest c stop = ap (λ (v : List Token). passes g (v ++ rest)) c ∙ stops_right (seen a) g rest stop
-many_stops C g a not heads (x ∷ xs) w rest c stop =
-    front_of false g w c.0 c.1 rest c.2 (apart_stops (seen a) g (seen_apart a g not) (c.0 ++ (c.1 ++ rest)) (heads.first c.0 x (c.1 ++ rest) c.3))
-
 pub reads_some : {effort : Effort} {A : Type 0} {R C : Form A} {g : Test} {p : Reader A} (a : TokenLook) → Not a g → Starts true (seen a) C → Reads effort R C g p
-    → Reads effort (f.some R) (f.some C) (either (seen a) g) (some_of effort.turns a p)
+    → Reads effort (f.some R) (f.some C) (either (seen a) g) (p >>= λ x. many (seen a) p effort.turns >>= λ xs. pure (x ∷ xs))
 reads_some {effort = effort} {A = A} {R = R} {C = C} {g = g} {p = p} a not heads e = (
   exact_bind (λ x. f.◌>>=◌ (f.many R) (λ xs. nothing (x ∷ xs))) (λ x. f.◌>>=◌ (f.many C) (λ xs. nothing (x ∷ xs))) (either (seen a) g)
       (λ x. many (seen a) p effort.turns >>= λ xs. pure (x ∷ xs)) e.0 (λ x. (rest_of x).0) (λ x. (rest_of x).1)
       (λ x b y rest d stop.
-      front_of false g b d.0 d.1 rest d.3 (many_stops C g a not heads d.2 d.0 (d.1 ++ rest) d.4
-      (subst (λ (v : List Token). Stops (either (seen a) g) (v ++ rest)) (sym d.5.0) stop))),
+      front_of false g b d.0 d.1 rest d.3 (many_stop g C (heads_halts (seen a) g C heads.first (seen_apart a g not)) d.0 d.2 (d.1 ++ rest) d.4
+      (subst (λ (v : List Token). Stops g (v ++ rest)) (sym d.5.0) (stops_right (seen a) g rest stop)))),
   (let s = (rest_of e.1.1).1 in (e.1.0 ++ s.0, s.1, (e.1.0, s.0, e.1.1, refl, e.1.2, s.2))),
 ) where
   rest_of : (x : A) → Reads effort (f.◌>>=◌ (f.many R) (λ xs. nothing (x ∷ xs))) (f.◌>>=◌ (f.many C) (λ xs. nothing (x ∷ xs))) (either (seen a) g) (many (seen a) p effort.turns >>= λ xs. pure (x ∷ xs))

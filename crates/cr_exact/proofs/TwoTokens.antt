@@ -1,7 +1,7 @@
 -- A command, or an operation: the reader looks at two tokens, since a spaced `-` begins an argument where the next is tight.
 use Rattle.std.proofs.Common.{◌≡◌, ℕ, Bool, true, false, ◌&&◌, ◌||◌, cond, List, [], ◌∷◌, ◌++◌, ◌⊎◌, inl, inr, refl, sym, ap, subst, ◌∙◌}
 use Rattle.std.proofs.lemmas.List.{append-nil}
-use Rattle.std.specs.Prelude.{not, Option, Some}
+use Rattle.std.specs.Prelude.{not}
 use Rattle.cr_syntax.specs.declared.look.TokenLook.{TokenLook}
 use Rattle.cr_syntax.specs.declared.token.Token.{Token}
 use Rattle.cr_syntax.specs.declared.token.TokenKind.TheVariants as k
@@ -12,7 +12,9 @@ use Rattle.cr_grammar.specs.Operators.{is_minus, begins_value, begins_argument}
 use Rattle.cr_exact.specs.declared.fault.ParseFault.TheVariants.{Unexpected}
 use Rattle.cr_exact.specs.Reader.{State, Outcome, Found, Failed, Reader, Test, look_at}
 use Rattle.cr_exact.specs.Exact.{at, head, last_from, Stops, Effort, Enough, Ends, Finds, Refuses, Exact, Any}
-use Rattle.cr_exact.proofs.Tokens.{a_token, clash}
+use Rattle.cr_exact.proofs.TokenTests.{clash, not_true}
+use Rattle.cr_exact.proofs.Sequence.{head-look}
+use Rattle.cr_exact.proofs.Tokens.{a_token, some_one, chosen, chosen_ends}
 
 -- The tokens tell whether an argument begins, whatever follows them.
 abbrev pub Settled : List Token → Type 0
@@ -36,9 +38,6 @@ tight_nil = a_token k.Nil
 -- a spaced one
 abbrev pub spaced_nil : Token
 spaced_nil = record tight_nil { spaced = true }
-
-some_one : (x y : Token) → let some : Token → Option Token = Some in some x ≡ some y → x ≡ y
-some_one x y e = cc
 
 -- Where the first token is no `-`, it tells all.
 head_tells : (a b : List Token) → head a ≡ head b → is_minus (look_at a) ≡ false → begins_argument a ≡ begins_argument b
@@ -80,10 +79,6 @@ not_spaced : (m n : Bool) → m && false && n ≡ false
 not_spaced true n = refl
 not_spaced false n = refl
 
-not_minus : (b : Bool) → (b ≡ true → ⊥) → b ≡ false
-not_minus true other = absurd (other refl)
-not_minus false other = refl
-
 or_true : (b : Bool) → b || true ≡ true
 or_true true = refl
 or_true false = refl
@@ -98,21 +93,6 @@ sign_of t tail minus is = elim (either_is t.spaced) [
   | inl spaced ↦ rw (minus, spaced) (or_true _)
   | inr tight ↦ absurd (clash (unspaced t tail tight) is)
 ]
-
-head-minus : (a b : List Token) → head a ≡ head b → is_minus (look_at a) ≡ is_minus (look_at b)
-head-minus [] [] h = refl
-head-minus [] (t ∷ b) h = absurd cc
-head-minus (t ∷ a) [] h = absurd cc
-head-minus (t ∷ a) (u ∷ b) h = cc
-
-pub chosen : {A : Type 0} (b : Bool) (p q : Reader A) (s : State) (r : Outcome A) → cond b p q s ≡ r → ((b ≡ true) × (p s ≡ r)) ⊎ ((b ≡ false) × (q s ≡ r))
-chosen true p q s r e = inl (refl, e)
-chosen false p q s r e = inr (refl, e)
-
-chosen_ends : {A : Type 0} (b : Bool) (p q : Reader A) (s : State) (enough : Type 0) (x : A) (before : TokenLook) (rest : List Token) (limited : Bool)
-    → (b ≡ true → Ends enough (p s) x before rest limited) → (b ≡ false → Ends enough (q s) x before rest limited) → Ends enough (cond b p q s) x before rest limited
-chosen_ends true p q s enough x before rest limited u v = u refl
-chosen_ends false p q s enough x before rest limited u v = v refl
 
 -- A reader that would find a `-` and this mark refuses at no `-`, and finds nothing before one.
 module _ (effort : Effort) (R C : Form Tree) (g : Test) (p : Reader Tree) (e : Exact effort Any R C g p) (mark : Token)
@@ -176,7 +156,7 @@ module _ (effort : Effort) (K KC Q QC : Form Tree) (g : Test) (p q : Reader Tree
   same_test : (s s' : State) (front rest : List Token) → s.rest ≡ front ++ s'.rest → head rest ≡ head s'.rest → (front ≡ [] → is_minus (look_at s'.rest) ≡ true → ⊥)
       → begins_argument (front ++ rest) ≡ begins_argument s.rest
   same_test s s' front rest parts same never =
-      tells front rest s'.rest same (λ none. not_minus (is_minus (look_at rest)) (λ minus. never none (sym (head-minus rest s'.rest same) ∙ minus))) ∙ ap begins_argument (sym parts)
+      tells front rest s'.rest same (λ none. not_true (is_minus (look_at rest)) (λ minus. never none (sym (ap is_minus (head-look rest s'.rest same)) ∙ minus))) ∙ ap begins_argument (sym parts)
 
   unless-found : (s : State) (x : Tree) (s' : State) → now s ≡ Found x s' → Finds (Both K Q) now s x s'
   unless-found s x s' e =
