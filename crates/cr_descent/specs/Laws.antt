@@ -49,7 +49,7 @@ pub record IsLongest (wanted : Wanted) (list : List Token) (x : Tree) (rest : Li
 abbrev pub FoundIsLongest : Type 0
 FoundIsLongest = (turns n : ℕ) (wanted : Wanted) (s s' : State) (x : Tree) → read turns n wanted s ≡ Found x s' → IsLongest wanted s.rest x s'.rest
 
--- All of a spelled list is found, where no limit stops the reader: with so many constructs in one another as spell it, and more
+-- All of a spelled list is found, where nesting and nodes have no limit: with so many constructs in one another as spell it, and more
 -- turns than it has tokens.
 abbrev pub SpelledIsFound : Type 0
 SpelledIsFound = (wanted : Wanted) (w : List Token) (x : Tree) → Spells wanted w x → (n : ℕ) × ((turns : ℕ) (s : State) → s.rest ≡ w → s.limited ≡ false → length w < turns

@@ -20,7 +20,7 @@ pub fn longest_front()
     ensures { FoundIsLongest }
 {}
 
-/// A spelled list is found whole, where no limit stops the reader.
+/// A spelled list is found whole, where nesting and nodes have no limit.
 pub fn spelled_is_found()
     ensures { SpelledIsFound }
 {}
