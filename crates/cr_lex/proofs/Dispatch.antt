@@ -1,8 +1,8 @@
 -- A form is chosen by the first byte.
-use Rattle.std.proofs.Common.{◌≡◌, ℕ, zero, suc, ◌+◌, ◌-◌, ◌<◌, ◌≤◌, Bool, true, false, not, ◌&&◌, ◌||◌, List, [], ◌∷◌, ◌++◌, length, take, drop, get_or, ◌==◌, None, Result, Ok, Err, refl, sym, ap, subst, ◌∙◌, arith, inl, inr}
-use Rattle.std.proofs.lemmas.Bool.{eqb-true}
-use Rattle.std.proofs.lemmas.Bool.Decides.{eqb_tells}
-use Rattle.std.proofs.lemmas.List.{take-append-drop}
+use Rattle.std.proofs.Common.{◌≡◌, ℕ, zero, suc, ◌+◌, ◌-◌, ◌<◌, ◌≤◌, Bool, true, false, not, ◌&&◌, ◌||◌, List, [], ◌∷◌, ◌++◌, length, take, drop, get_or, ◌==◌, None, Result, Ok, Err, refl, sym, ap, subst, ◌∙◌, arith}
+use Rattle.std.proofs.lemmas.Bool.{eqb-true, and_parts, ne_eqb, not-true, or_parts}
+use Rattle.std.proofs.Math.Bool.{and_comm}
+use Rattle.std.proofs.lemmas.List.{take-append-drop, take_rest}
 use Rattle.cr_syntax.specs.declared.fault.LexFault.{LexFault}
 use Rattle.cr_syntax.specs.declared.fault.LexFault.TheVariants as fault
 use Rattle.cr_syntax.specs.declared.token.TokenKind.{TokenKind}
@@ -14,9 +14,7 @@ use Rattle.cr_lex.specs.Longest.{Form, IsLongest, HasNone}
 use Rattle.cr_lex.specs.Words.{word_form, constant_form, operator_form, begins_content}
 use Rattle.cr_lex.specs.Numbers.{number_form}
 use Rattle.cr_lex.specs.Texts.{Bad, Unended, scan}
-use Rattle.cr_lex.specs.Step.{begins_sign, digit_form, ReadsForm}
-use Rattle.cr_lex.proofs.Slices.{all_behind}
-use Rattle.cr_lex.proofs.WordBytes.{first_true, second_true, or_false}
+use Rattle.cr_lex.specs.Step.{begins_operator, digit_form, ReadsForm}
 use Rattle.cr_lex.proofs.PartsRead.{says_so}
 
 -- ---- a number from its first digit on
@@ -59,13 +57,6 @@ carry : (F G : Form) (bytes : List ℕ) (f g : LexFault) (r : Result (TokenKind 
 carry F G bytes f g (Ok found) same faults reads = carry_longest F G bytes found.1 found.0 same reads
 carry F G bytes f g (Err e) same faults reads = λ other. let h = reads other in ((λ m within. same m within ∙ h.0 m within), h.1 ∙ sym faults)
 
-eqb_false : (a b : ℕ) → (a ≡ b → ⊥) → (a == b) ≡ false
-eqb_false a b never = elim (eqb_tells a b) [ inl (t, e) ↦ absurd (never e) | inr (f, ne) ↦ f ]
-
-not_true : (b : Bool) → not b ≡ true → b ≡ false
-not_true false e = refl
-not_true true e = absurd cc
-
 -- one of the tests holds, and it is none of the first
 last_left : (d n c v q b m : Bool) → d ≡ false → n ≡ false → c ≡ false → v ≡ false → q ≡ false → b ≡ false → (not (d || (n || (c || (v || q)))) && (not b && not m)) ≡ false → m ≡ true
 last_left d n c v q b true pd pn pc pv pq pb e = refl
@@ -96,8 +87,8 @@ module _ (before : Before) (spaced : Bool) (place : ℕ) where
 
   digit_fault : (b : ℕ) (bs : List ℕ) → is_digit b ≡ true → fault_at before place (b ∷ bs) ≡ fault.BadNumber place
   digit_fault b bs e =
-      let quote : (b == 34) ≡ false = eqb_false b 34 (λ is. absurd (let no : is_digit 34 ≡ true = subst (λ (c : ℕ). is_digit c ≡ true) is e in cc)) in
-      let brace : (b == 125) ≡ false = eqb_false b 125 (λ is. absurd (let no : is_digit 125 ≡ true = subst (λ (c : ℕ). is_digit c ≡ true) is e in cc)) in
+      let quote : (b == 34) ≡ false = ne_eqb b 34 (λ is. absurd (let no : is_digit 34 ≡ true = subst (λ (c : ℕ). is_digit c ≡ true) is e in cc)) in
+      let brace : (b == 125) ≡ false = ne_eqb b 125 (λ is. absurd (let no : is_digit 125 ≡ true = subst (λ (c : ℕ). is_digit c ≡ true) is e in cc)) in
       rw (quote, brace, e) refl
 
   pub by_digit : (rest : List ℕ) (r : Read) → 0 < length rest → is_digit (get_or rest 0 0) ≡ true → ReadsForm (digit_form (get_or rest 0 0)) (drop 1 rest) (fault.BadNumber place) r → Wanted rest r
@@ -129,7 +120,7 @@ module _ (before : Before) (spaced : Bool) (place : ℕ) where
     variable : (b == 64) ≡ false
     quote : (b == 34) ≡ false
     brace : (b == 125 && in_insertion before) ≡ false
-    minus : (b == 45 && (takes_minus before spaced && begins is_digit bs)) ≡ signed
+    minus : (b == 45 && (begins is_digit bs && takes_minus before spaced)) ≡ signed
 
   and_assoc : (x y z : Bool) → (x && y && z) ≡ (x && (y && z))
   and_assoc true y z = refl
@@ -139,7 +130,8 @@ module _ (before : Before) (spaced : Bool) (place : ℕ) where
   minus_parts : (b : ℕ) (bs : List ℕ) (m : ℕ) (signed : Bool) → IsOther b bs signed → (b == 45 && takes_minus before spaced && begins is_digit (take m bs ++ drop m bs)) ≡ signed
   minus_parts b bs m signed is =
       and_assoc (b == 45) (takes_minus before spaced) (begins is_digit (take m bs ++ drop m bs))
-      ∙ ap (λ (xs : List ℕ). b == 45 && (takes_minus before spaced && begins is_digit xs)) (take-append-drop m bs) ∙ is.minus
+      ∙ ap (λ (xs : List ℕ). b == 45 && (takes_minus before spaced && begins is_digit xs)) (take-append-drop m bs)
+      ∙ ap (λ (t : Bool). b == 45 && t) (and_comm (takes_minus before spaced) (begins is_digit bs)) ∙ is.minus
 
   other_same : (b : ℕ) (bs : List ℕ) (m : ℕ) → IsOther b bs false → form_by before spaced b (take m bs) (drop m bs) ≡ operator_form b (take m bs) (drop m bs)
   other_same b bs m is =
@@ -159,7 +151,7 @@ module _ (before : Before) (spaced : Bool) (place : ℕ) where
   signed_fault : (b : ℕ) (bs : List ℕ) → IsOther b bs true → fault_at before place (b ∷ bs) ≡ fault.BadNumber place
   signed_fault b bs is =
       let digit = is.digit in let quote = is.quote in let brace = is.brace in
-      let minus = first_true (b == 45) (takes_minus before spaced && begins is_digit bs) is.minus in
+      let minus = (and_parts (b == 45) (begins is_digit bs && takes_minus before spaced) is.minus).0 in
       rw (quote, brace, digit, minus) refl
 
   by_minus_test : (b : ℕ) (bs : List ℕ) (t : Bool) → (b == 45) ≡ t → IsOther b bs false → HasNone (operator_form b) bs → fault_at before place (b ∷ bs) ≡ fault.BadByte place
@@ -171,31 +163,31 @@ module _ (before : Before) (spaced : Bool) (place : ℕ) where
   other b bs (Err e) is reads = λ apart. let h = reads apart in
       ((λ m within. other_same b bs m is ∙ h.0 m within), h.1 ∙ sym (by_minus_test b bs (b == 45) refl is h.0))
 
-  is_other : (b : ℕ) (bs : List ℕ) → begins_sign before spaced b bs ≡ true → IsOther b bs false
+  is_other : (b : ℕ) (bs : List ℕ) → begins_operator before spaced b bs ≡ true → IsOther b bs false
   is_other b bs e =
-      let content = first_true (not (begins_content b)) (not (b == 125 && in_insertion before) && not (b == 45 && (takes_minus before spaced && begins is_digit bs))) e in
-      let rest = second_true (not (begins_content b)) (not (b == 125 && in_insertion before) && not (b == 45 && (takes_minus before spaced && begins is_digit bs))) e in
-      let not_content : begins_content b ≡ false = not_true (begins_content b) content in
-      let not_digit = or_false (is_digit b) (begins_name b || (begins_constant b || (b == 64 || b == 34))) not_content in
-      let not_name = or_false (begins_name b) (begins_constant b || (b == 64 || b == 34)) not_digit.1 in
-      let not_constant = or_false (begins_constant b) (b == 64 || b == 34) not_name.1 in
-      let not_mark = or_false (b == 64) (b == 34) not_constant.1 in
+      let content = (and_parts (not (begins_content b)) (not (b == 125 && in_insertion before) && not (b == 45 && (begins is_digit bs && takes_minus before spaced))) e).0 in
+      let rest = (and_parts (not (begins_content b)) (not (b == 125 && in_insertion before) && not (b == 45 && (begins is_digit bs && takes_minus before spaced))) e).1 in
+      let not_content : begins_content b ≡ false = not-true (begins_content b) content in
+      let not_digit = or_parts (is_digit b) (begins_name b || (begins_constant b || (b == 64 || b == 34))) not_content in
+      let not_name = or_parts (begins_name b) (begins_constant b || (b == 64 || b == 34)) not_digit.1 in
+      let not_constant = or_parts (begins_constant b) (b == 64 || b == 34) not_name.1 in
+      let not_mark = or_parts (b == 64) (b == 34) not_constant.1 in
       record {
         digit = not_digit.0;
         name = not_name.0;
         constant = not_constant.0;
         variable = not_mark.0;
         quote = not_mark.1;
-        brace = not_true (b == 125 && in_insertion before) (first_true (not (b == 125 && in_insertion before)) (not (b == 45 && (takes_minus before spaced && begins is_digit bs))) rest);
-        minus = not_true (b == 45 && (takes_minus before spaced && begins is_digit bs)) (second_true (not (b == 125 && in_insertion before)) (not (b == 45 && (takes_minus before spaced && begins is_digit bs))) rest);
+        brace = not-true (b == 125 && in_insertion before) (and_parts (not (b == 125 && in_insertion before)) (not (b == 45 && (begins is_digit bs && takes_minus before spaced))) rest).0;
+        minus = not-true (b == 45 && (begins is_digit bs && takes_minus before spaced)) (and_parts (not (b == 125 && in_insertion before)) (not (b == 45 && (begins is_digit bs && takes_minus before spaced))) rest).1;
       }
 
-  pub by_sign : (b : ℕ) (bs : List ℕ) (r : Read) → begins_sign before spaced b bs ≡ true → ReadsForm (operator_form b) bs (fault.BadByte place) r → Wanted (b ∷ bs) r
-  by_sign b bs r is reads = other b bs r (is_other b bs is) reads
+  pub by_operator : (b : ℕ) (bs : List ℕ) (r : Read) → begins_operator before spaced b bs ≡ true → ReadsForm (operator_form b) bs (fault.BadByte place) r → Wanted (b ∷ bs) r
+  by_operator b bs r is reads = other b bs r (is_other b bs is) reads
 
   pub by_minus : (rest : List ℕ) (r : Read) → 0 < length rest → is_digit (get_or rest 0 0) ≡ false → begins_name (get_or rest 0 0) ≡ false → begins_constant (get_or rest 0 0) ≡ false
       → (get_or rest 0 0 ≡ 64 → ⊥) → (get_or rest 0 0 ≡ 34 → ⊥) → (get_or rest 0 0 == 125 && in_insertion before) ≡ false
-      → begins_sign before spaced (get_or rest 0 0) (drop 1 rest) ≡ false
+      → begins_operator before spaced (get_or rest 0 0) (drop 1 rest) ≡ false
       → ReadsForm (number_form true) (Sliced rest) (fault.BadNumber place) r → Wanted rest r
   by_minus [] r some d n c v q b m reads = absurd (omega arith)
   by_minus (x ∷ xs) r some d n c v q b m reads =
@@ -203,11 +195,11 @@ module _ (before : Before) (spaced : Bool) (place : ℕ) where
         digit = d;
         name = n;
         constant = c;
-        variable = eqb_false x 64 v;
-        quote = eqb_false x 34 q;
+        variable = ne_eqb x 64 v;
+        quote = ne_eqb x 34 q;
         brace = b;
-        minus = last_left (is_digit x) (begins_name x) (begins_constant x) (x == 64) (x == 34) (x == 125 && in_insertion before) (x == 45 && (takes_minus before spaced && begins is_digit xs))
-            d n c (eqb_false x 64 v) (eqb_false x 34 q) b m;
+        minus = last_left (is_digit x) (begins_name x) (begins_constant x) (x == 64) (x == 34) (x == 125 && in_insertion before) (x == 45 && (begins is_digit xs && takes_minus before spaced))
+            d n c (ne_eqb x 64 v) (ne_eqb x 34 q) b m;
       } in
       carry (form_by before spaced x) (number_form true) xs (fault_at before place (x ∷ xs)) (fault.BadNumber place) r (λ i within. signed_same x xs i is) (signed_fault x xs is)
-      (subst (λ (ys : List ℕ). ReadsForm (number_form true) ys (fault.BadNumber place) r) (all_behind 1 (x ∷ xs)) reads)
+      (subst (λ (ys : List ℕ). ReadsForm (number_form true) ys (fault.BadNumber place) r) (take_rest (x ∷ xs) 1) reads)

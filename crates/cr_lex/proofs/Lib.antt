@@ -1,4 +1,3 @@
-mod Tables
 mod LongestOperator
 pub mod WordBytes
 mod Values

@@ -1,14 +1,14 @@
 -- What a part of a text stands for is text.
-use Rattle.std.proofs.Common.{◌≡◌, ℕ, suc, ◌+◌, ◌/◌, ◌<◌, ◌≤◌, Bool, true, false, cond, ◌&&◌, List, [], ◌∷◌, ◌++◌, length, ◌==◌, ltb, lit<, Option, Some, None, refl, sym, ap, subst, ◌∙◌, arith, append_assoc, inl, inr}
-use Rattle.std.proofs.lemmas.Bool.{cases_lt}
-use Rattle.std.proofs.lemmas.Bool.Decides.{eqb_tells, leb_tells}
+use Rattle.std.proofs.Common.{◌≡◌, ℕ, ◌+◌, ◌/◌, ◌<◌, ◌≤◌, Bool, true, false, cond, ◌&&◌, List, [], ◌∷◌, ◌++◌, length, ◌==◌, ltb, lit<, Option, Some, None, refl, sym, ap, subst, ◌∙◌, arith, append_assoc, inl, inr}
+use Rattle.std.proofs.lemmas.List.{append-nil}
+use Rattle.std.proofs.lemmas.Str.Ascii.{IsAscii-cons, IsAscii-nil}
+use Rattle.std.proofs.lemmas.Bool.{ne_eqb, cases_lt, and_from, and_parts, le-ltb}
 use Rattle.std.proofs.lemmas.Str.{IsUtf8-nil, IsUtf8-append, IsUtf8-from_ascii, encode_ascii, length-encode, len_utf8_bounds}
 use Rattle.std.specs.Char.{len_utf8}
 use Rattle.std.specs.Str.{IsUtf8}
 use lib.Utf8.{scalar, scalars, encode, encodes, next}
 use Rattle.cr_syntax.specs.Words.{begins}
 use Rattle.cr_syntax.specs.Texts.{escape, Part, ended}
-use Rattle.cr_lex.proofs.WordBytes.{both_true, first_true, second_true, ascii_more, nil_ascii}
 use Rattle.cr_lex.proofs.Scanned.{push_turn}
 use Rattle.cr_lex.specs.Texts.{Scan, Found, Bad, Unended, behind_bytes, is_brace, with_escape, scan}
 
@@ -24,7 +24,7 @@ text_behind n text (Bad m) front rest = tt
 text_behind n text Unended front rest = tt
 
 one_ascii : (x : ℕ) → x < 128 → IsUtf8 (x ∷ [])
-one_ascii x below = IsUtf8-from_ascii (x ∷ []) (ascii_more x [] below nil_ascii)
+one_ascii x below = IsUtf8-from_ascii (x ∷ []) (IsAscii-cons x [] below IsAscii-nil)
 
 escape_ascii : (b c : ℕ) → escape b ≡ Some c → c < 128
 escape_ascii b c e = by_tests (b == 92) (b == 34) (b == 35) (b == 110) (b == 116) (b == 114) e
@@ -59,7 +59,7 @@ AllHigh [] = Unit {0}
 AllHigh (b ∷ bs) = (128 ≤ b) × AllHigh bs
 
 not_low : (b n : ℕ) → 128 ≤ b → n < 128 → (b == n) ≡ false
-not_low b n high low = elim (eqb_tells b n) [ inl (t, e) ↦ absurd (omega arith) | inr (f, ne) ↦ f ]
+not_low b n high low = ne_eqb b n (λ e. absurd (omega arith))
 
 escape_high : (b : ℕ) → 128 ≤ b → escape b ≡ None
 escape_high b high =
@@ -78,12 +78,8 @@ scan_high b bs high =
     let d = not_low b 35 high (lit< tt) in
     rw (a, c, d) refl
 
-nil_right : (xs : List ℕ) → xs ++ [] ≡ xs
-nil_right [] = refl
-nil_right (x ∷ xs) = ap (λ (ys : List ℕ). x ∷ ys) (nil_right xs)
-
 high_behind : (n : ℕ) (front xs ys : List ℕ) → AllHigh xs → IsUtf8 (front ++ xs) → IsText (scan false ys) → IsText (behind_bytes n front (scan false (xs ++ ys)))
-high_behind n front [] ys high whole rest = text_behind n front (scan false ys) (subst IsUtf8 (nil_right front) whole) rest
+high_behind n front [] ys high whole rest = text_behind n front (scan false ys) (subst IsUtf8 (append-nil front) whole) rest
 high_behind n front (b ∷ xs) ys high whole rest =
     subst IsText (sym (ap (behind_bytes n front) (scan_high b (xs ++ ys) high.0) ∙ push_turn n front b (scan false (xs ++ ys))))
     (high_behind (n + 1) (front ++ b ∷ []) xs ys high.1 (subst IsUtf8 (sym (append_assoc front (b ∷ []) xs)) whole) rest)
@@ -100,12 +96,9 @@ escaped_high : (xs ys : List ℕ) → AllHigh xs → 0 < length xs → IsText (s
 escaped_high [] ys high some = absurd (omega arith)
 escaped_high (b ∷ xs) ys high some = subst (λ (o : Option ℕ). IsText (with_escape o (scan false (xs ++ ys)))) (sym (escape_high b high.0)) tt
 
-ge_ltb : (c n : ℕ) → n ≤ c → ltb c n ≡ false
-ge_ltb c n ge = elim (leb_tells (suc c) n) [ inl (t, lt) ↦ absurd (omega arith) | inr (f, le) ↦ f ]
-
 high_encode : (c : ℕ) → 128 ≤ c → AllHigh (encode c)
 unfolding encode
-high_encode c high = by_tests (ltb c 128) (ltb c 2048) (ltb c 65536) (ge_ltb c 128 high)
+high_encode c high = by_tests (ltb c 128) (ltb c 2048) (ltb c 65536) (le-ltb c 128 high)
   where
     by_tests : (t u v : Bool) → t ≡ false → AllHigh (cond t (c ∷ []) (cond u ((192 + c / 64) ∷ next c ∷ []) (cond v ((224 + c / 4096) ∷ next (c / 64) ∷ next c ∷ []) ((240 + c / 262144) ∷ next (c / 4096) ∷ next (c / 64) ∷ next c ∷ []))))
     by_tests true u v e = absurd cc
@@ -114,7 +107,7 @@ high_encode c high = by_tests (ltb c 128) (ltb c 2048) (ltb c 65536) (ge_ltb c 1
     by_tests false false false e = (omega arith, (omega arith, (omega arith, (omega arith, tt))))
 
 one_char : (c : ℕ) → scalar c ≡ true → IsUtf8 (encode c)
-one_char c e = (c ∷ [], (both_true (scalar c) true e refl, nil_right (encode c)))
+one_char c e = (c ∷ [], (and_from (scalar c) true e refl, append-nil (encode c)))
 
 some_bytes : (c : ℕ) → 0 < length (encode c)
 some_bytes c = let bounds = len_utf8_bounds c in let one : 1 ≤ len_utf8 c = bounds.0 in omega (arith, length-encode c)
@@ -122,11 +115,11 @@ some_bytes c = let bounds = len_utf8_bounds c in let one : 1 ≤ len_utf8 c = bo
 text_of : (cs : List ℕ) → scalars cs ≡ true → IsText (scan true (encodes cs)) × IsText (scan false (encodes cs))
 text_of [] e = (tt, tt)
 text_of (c ∷ cs) e =
-    let rest = text_of cs (second_true (scalar c) (scalars cs) e) in
+    let rest = text_of cs (and_parts (scalar c) (scalars cs) e).1 in
     elim (cases_lt c 128) [
       | inl low ↦ subst (λ (xs : List ℕ). IsText (scan true (xs ++ encodes cs)) × IsText (scan false (xs ++ encodes cs))) (sym (encode_ascii c low))
           (text_escape c (escape c) (scan false (encodes cs)) refl rest.1, text_low c (c == 34) (c == 92) (c == 35 && begins is_brace (encodes cs)) (scan true (encodes cs)) (scan false (encodes cs)) low rest.0 rest.1)
-      | inr high ↦ (escaped_high (encode c) (encodes cs) (high_encode c high) (some_bytes c), text_high (encode c) (encodes cs) (high_encode c high) (one_char c (first_true (scalar c) (scalars cs) e)) rest.1)
+      | inr high ↦ (escaped_high (encode c) (encodes cs) (high_encode c high) (some_bytes c), text_high (encode c) (encodes cs) (high_encode c high) (one_char c (and_parts (scalar c) (scalars cs) e).0) rest.1)
     ]
 
 pub part_text : (bytes : List ℕ) (part : Part) (n : ℕ) → IsUtf8 bytes → scan false bytes ≡ Found part n → IsUtf8 part.bytes

@@ -1,11 +1,10 @@
 -- A part whose bytes all stand for themselves.
-use Rattle.std.proofs.Common.{◌≡◌, ℕ, suc, ◌+◌, ◌-◌, Bool, true, false, cond, ◌&&◌, ◌||◌, List, [], ◌∷◌, ◌++◌, length, take, drop, ◌==◌, Some, None, refl, sym, ap, subst, ◌∙◌, arith}
-use Rattle.std.proofs.lemmas.Bool.{eqb-true}
+use Rattle.std.proofs.Common.{◌≡◌, ℕ, suc, ◌+◌, ◌-◌, Bool, true, false, cond, ◌&&◌, ◌||◌, List, [], ◌∷◌, length, take, drop, ◌==◌, Some, None, refl, sym, ap, subst, ◌∙◌, arith}
+use Rattle.std.proofs.lemmas.List.{append-nil, take_rest}
+use Rattle.std.proofs.lemmas.Bool.{eqb-true, and_parts, or_parts}
 use Rattle.cr_syntax.specs.Words.{begins}
 use Rattle.cr_syntax.specs.Texts.{Part, ended}
 use Rattle.cr_lex.specs.Texts.{Scan, Found, Bad, Unended, with_text, behind_bytes, is_brace, scan, ends_plain, plain_length, ending_of, ending_length}
-use Rattle.cr_lex.proofs.Slices.{all_behind}
-use Rattle.cr_lex.proofs.WordBytes.{first_true, or_false}
 
 behind_nothing : (s : Scan) → s ≡ behind_bytes 0 [] s
 behind_nothing (Found part n) = let e : n ≡ 0 + n = omega arith in ap (Found part) e
@@ -28,8 +27,8 @@ passes (b ∷ bs) = by_test (ends_plain b) refl (passes bs)
     by_test : (t : Bool) → ends_plain b ≡ t → Passes bs (plain_length bs) → Passes (b ∷ bs) (cond t 0 (suc (plain_length bs)))
     by_test true is rest = behind_nothing (scan false (b ∷ bs))
     by_test false is rest =
-        let first = or_false (b == 34) (b == 92 || b == 35) is in
-        let others = or_false (b == 92) (b == 35) first.1 in
+        let first = or_parts (b == 34) (b == 92 || b == 35) is in
+        let others = or_parts (b == 92) (b == 35) first.1 in
         let no_quote = first.0 in let no_slash = others.0 in let no_hash = others.1 in
         let step : scan false (b ∷ bs) ≡ behind_bytes 1 (b ∷ []) (scan false bs) = rw (no_quote, no_slash, no_hash) refl in
         step ∙ ap (behind_bytes 1 (b ∷ [])) rest ∙ behind_twice b (plain_length bs) (take (plain_length bs) bs) (scan false (drop (plain_length bs) bs))
@@ -45,11 +44,7 @@ pick false slash false opens r s e apart = absurd cc
 ends_here : (bs : List ℕ) (opens : Bool) → ending_of bs ≡ Some opens → scan false bs ≡ Found (ended opens) (ending_length opens)
 ends_here [] opens e = absurd cc
 ends_here (b ∷ bs) opens e = pick (b == 34) (b == 92) (b == 35 && begins is_brace bs) opens (behind_bytes 1 [] (scan true bs)) (behind_bytes 1 (b ∷ []) (scan false bs)) e
-    (λ hash. let at : b ≡ 35 = eqb-true b 35 (first_true (b == 35) (begins is_brace bs) hash) in ap (λ (c : ℕ). c == 92) at)
-
-append_nil : (bs : List ℕ) → (bs ++ []) ≡ bs
-append_nil [] = refl
-append_nil (b ∷ bs) = ap (λ (cs : List ℕ). b ∷ cs) (append_nil bs)
+    (λ hash. let at : b ≡ 35 = eqb-true b 35 (and_parts (b == 35) (begins is_brace bs) hash).0 in ap (λ (c : ℕ). c == 92) at)
 
 abbrev pub whole : List ℕ → Bool → Part
 whole text opens = record { bytes = text; opens = opens }
@@ -57,7 +52,7 @@ whole text opens = record { bytes = text; opens = opens }
 -- up to the ending
 pub whole_found : (bs : List ℕ) (n : ℕ) (opens : Bool) → n ≡ plain_length bs → Some opens ≡ ending_of (take (length bs - n) (drop n bs)) → scan false bs ≡ Found (whole (take n bs) opens) (n + ending_length opens)
 whole_found bs n opens e ends =
-    let here : ending_of (drop n bs) ≡ Some opens = ap ending_of (sym (all_behind n bs)) ∙ sym ends in
+    let here : ending_of (drop n bs) ≡ Some opens = ap ending_of (sym (take_rest bs n)) ∙ sym ends in
     subst (Passes bs) (sym e) (passes bs)
     ∙ ap (behind_bytes n (take n bs)) (ends_here (drop n bs) opens here)
-    ∙ ap (λ (text : List ℕ). Found (whole text opens) (n + ending_length opens)) (append_nil (take n bs))
+    ∙ ap (λ (text : List ℕ). Found (whole text opens) (n + ending_length opens)) (append-nil (take n bs))

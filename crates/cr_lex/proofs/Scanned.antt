@@ -1,10 +1,9 @@
 -- What a part read from the left says of the fronts of the bytes.
-use Rattle.std.proofs.Common.{◌≡◌, ℕ, zero, suc, ◌+◌, ◌-◌, ◌<◌, ◌≤◌, Bool, true, false, cond, ◌&&◌, List, [], ◌∷◌, ◌++◌, length, take, drop, ◌==◌, Option, Some, None, refl, sym, ap, ◌∙◌, arith, inl, inr, get_or, append_assoc, drop-cons}
+use Rattle.std.proofs.Common.{◌≡◌, ℕ, zero, suc, ◌+◌, ◌-◌, ◌<◌, ◌≤◌, Bool, true, false, cond, ◌&&◌, List, [], ◌∷◌, ◌++◌, length, take, drop, ◌==◌, Option, Some, None, refl, sym, ap, ◌∙◌, arith, get_or, append_assoc, drop-cons}
+use Rattle.std.proofs.lemmas.List.{take_rest}
 use Rattle.std.specs.Prelude.{is_some}
-use Rattle.std.proofs.lemmas.Bool.{eq-eqb}
-use Rattle.std.proofs.lemmas.Bool.Decides.{eqb_tells}
-use Rattle.cr_lex.proofs.WordBytes.{second_true}
-use Rattle.cr_lex.proofs.Slices.{all_behind}
+use Rattle.std.proofs.Math.Bool.{and-false}
+use Rattle.std.proofs.lemmas.Bool.{eq-eqb, and_parts, ne_eqb}
 use Rattle.std.specs.Option.{option_map, option_and_then}
 use Rattle.cr_syntax.specs.declared.fault.LexFault.{LexFault}
 use Rattle.cr_syntax.specs.declared.fault.LexFault.TheVariants as fault
@@ -112,7 +111,7 @@ closing b bs e = record { within = omega arith; some = omega arith; here = part_
     longer (c ∷ cs) (suc (suc m)) above within = part_quote b (c ∷ take m cs) e
 
 opening : (b : ℕ) (bs : List ℕ) → (b == 34) ≡ false → (b == 92) ≡ false → (b == 35 && begins is_brace bs) ≡ true → Fits false (b ∷ bs) 2 (ended true)
-opening b [] e f g = absurd (let no : begins is_brace [] ≡ true = second_true (b == 35) false g in cc)
+opening b [] e f g = absurd (let no : begins is_brace [] ≡ true = (and_parts (b == 35) false g).1 in cc)
 opening b (c ∷ cs) e f g = record { within = omega arith; some = omega arith; here = part_hash b (c ∷ []) e f g; longest = longer cs }
   where
     longer : (cs : List ℕ) (m : ℕ) → 2 < m → m ≤ suc (suc (length cs)) → part_of false (take m (b ∷ c ∷ cs)) ≡ None
@@ -123,11 +122,7 @@ opening b (c ∷ cs) e f g = record { within = omega arith; some = omega arith; 
     longer (d ∷ ds) (suc (suc (suc m))) above within = part_hash b (c ∷ d ∷ take m ds) e f g
 
 front_brace : (b : ℕ) (bs : List ℕ) (m : ℕ) → (b == 35 && begins is_brace bs) ≡ false → (b == 35 && begins is_brace (take m bs)) ≡ false
-front_brace b bs zero g = and_false (b == 35)
-  where
-    and_false : (x : Bool) → (x && false) ≡ false
-    and_false true = refl
-    and_false false = refl
+front_brace b bs zero g = and-false (b == 35)
 front_brace b [] (suc m) g = g
 front_brace b (c ∷ cs) (suc m) g = g
 
@@ -179,9 +174,6 @@ skip_turn i content (Found part n) = ap (Found (with_text content part)) (let e 
 skip_turn i content (Bad n) = ap Bad (let e : i + (1 + n) ≡ i + 1 + n = omega arith in e)
 skip_turn i content Unended = refl
 
-eqb_false : (a b : ℕ) → (a ≡ b → ⊥) → (a == b) ≡ false
-eqb_false a b never = elim (eqb_tells a b) [ inl (t, e) ↦ absurd (never e) | inr (f, ne) ↦ f ]
-
 module _ (bytes : List ℕ) (i : ℕ) (content : List ℕ) (whole : Scan) (below : i < length bytes) where
   at_byte : drop i bytes ≡ get_or bytes i 0 ∷ drop (i + 1) bytes
   at_byte = drop-cons bytes i 0 below ∙ ap (λ (k : ℕ). get_or bytes i 0 ∷ drop k bytes) (let e : suc i ≡ i + 1 = omega arith in e)
@@ -199,21 +191,17 @@ module _ (bytes : List ℕ) (i : ℕ) (content : List ℕ) (whole : Scan) (below
 
   pub slash_turn : (get_or bytes i 0 ≡ 34 → ⊥) → get_or bytes i 0 ≡ 92 → behind_bytes i content (scan false (drop i bytes)) ≡ whole → behind_bytes (i + 1) content (scan true (drop (i + 1) bytes)) ≡ whole
   slash_turn e f so_far = sym (skip_turn i content (scan true (drop (i + 1) bytes)))
-      ∙ ap (behind_bytes i content) (sym (scan_slash (get_or bytes i 0) (drop (i + 1) bytes) (eqb_false _ _ e) (eq-eqb _ _ f)))
+      ∙ ap (behind_bytes i content) (sym (scan_slash (get_or bytes i 0) (drop (i + 1) bytes) (ne_eqb _ _ e) (eq-eqb _ _ f)))
       ∙ ap (λ (bs : List ℕ). behind_bytes i content (scan false bs)) (sym at_byte) ∙ so_far
 
   pub plain_turn : (get_or bytes i 0 ≡ 34 → ⊥) → (get_or bytes i 0 ≡ 92 → ⊥) → (get_or bytes i 0 == 35 && begins is_brace (drop (i + 1) bytes)) ≡ false
       → behind_bytes i content (scan false (drop i bytes)) ≡ whole → behind_bytes (i + 1) (content ++ get_or bytes i 0 ∷ []) (scan false (drop (i + 1) bytes)) ≡ whole
   plain_turn e f g so_far = sym (push_turn i content (get_or bytes i 0) (scan false (drop (i + 1) bytes)))
-      ∙ ap (behind_bytes i content) (sym (scan_plain (get_or bytes i 0) (drop (i + 1) bytes) (eqb_false _ _ e) (eqb_false _ _ f) g))
+      ∙ ap (behind_bytes i content) (sym (scan_plain (get_or bytes i 0) (drop (i + 1) bytes) (ne_eqb _ _ e) (ne_eqb _ _ f) g))
       ∙ ap (λ (bs : List ℕ). behind_bytes i content (scan false bs)) (sym at_byte) ∙ so_far
 
   pub no_hash : (get_or bytes i 0 ≡ 35 → ⊥) → (get_or bytes i 0 == 35 && begins is_brace (drop (i + 1) bytes)) ≡ false
-  no_hash e = ap (λ (t : Bool). t && begins is_brace (drop (i + 1) bytes)) (eqb_false _ _ e)
+  no_hash e = ap (λ (t : Bool). t && begins is_brace (drop (i + 1) bytes)) (ne_eqb _ _ e)
 
   pub no_brace : false ≡ begins is_brace (take (length bytes - (i + 1)) (drop (i + 1) bytes)) → (get_or bytes i 0 == 35 && begins is_brace (drop (i + 1) bytes)) ≡ false
-  no_brace e = ap (λ (t : Bool). get_or bytes i 0 == 35 && t) (sym (e ∙ ap (begins is_brace) (all_behind (i + 1) bytes))) ∙ and_false (get_or bytes i 0 == 35)
-    where
-      and_false : (x : Bool) → (x && false) ≡ false
-      and_false true = refl
-      and_false false = refl
+  no_brace e = ap (λ (t : Bool). get_or bytes i 0 == 35 && t) (sym (e ∙ ap (begins is_brace) (take_rest bytes (i + 1)))) ∙ and-false (get_or bytes i 0 == 35)

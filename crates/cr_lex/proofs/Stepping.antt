@@ -1,5 +1,7 @@
 -- What stands next, and a source read token by token.
-use Rattle.std.proofs.Common.{◌≡◌, ℕ, zero, suc, ◌+◌, ◌-◌, ◌<◌, ◌≤◌, Bool, true, List, [], ◌∷◌, ◌++◌, length, take, drop, get_or, Option, Some, None, Result, Ok, Err, unwrap_or, refl, sym, ap, subst, ◌∙◌, arith, inl, inr, append_assoc, drop-cons, length-drop}
+use Rattle.std.proofs.Common.{◌≡◌, ℕ, suc, ◌+◌, ◌-◌, ◌<◌, ◌≤◌, Bool, true, List, [], ◌∷◌, ◌++◌, length, take, drop, get_or, Option, Some, None, Result, Ok, Err, unwrap_or, refl, sym, ap, subst, ◌∙◌, arith, inl, inr, append_assoc, drop-cons, length-drop}
+use Rattle.std.proofs.lemmas.List.{take_rest}
+use Rattle.std.proofs.Math.ListN.{drop_of_length-le}
 use Rattle.std.proofs.lemmas.Bool.{cases_lt}
 use Rattle.std.proofs.lemmas.Str.{IsUtf8-drop, IsCharBoundary-after_ascii}
 use Rattle.std.specs.Str.{IsUtf8}
@@ -7,14 +9,15 @@ use Rattle.cr_syntax.specs.declared.fault.LexFault.{LexFault}
 use Rattle.cr_syntax.specs.declared.fault.LexFault.TheVariants as fault
 use Rattle.cr_syntax.specs.declared.token.Token.{Token}
 use Rattle.cr_syntax.specs.declared.token.TokenKind.{TokenKind}
-use Rattle.cr_syntax.specs.declared.token.TokenKind.TheVariants.{End}
+use Rattle.cr_syntax.specs.declared.token.TokenKind.TheVariants.{Plain}
+use Rattle.cr_syntax.specs.declared.look.TokenLook.TheVariants.{End}
 use Rattle.cr_syntax.specs.Lexes.{Before, start, outermost, behind, place_of, is_spaced, form_by, form_of, spells, IsToken, IsEnd, LexesFrom}
 use Rattle.cr_syntax.specs.Faults.{fault_at, IsStuck, FailsFrom}
+use Rattle.cr_syntax.proofs.Places.{spells_before}
 use Rattle.cr_lex.specs.Longest.{IsLongest, HasNone}
 use Rattle.cr_lex.specs.Words.{operator_form}
-use Rattle.cr_lex.specs.Step.{begins_sign, ReadsForm, Stands, token_by}
-use Rattle.cr_lex.proofs.Dispatch.{by_sign}
-use Rattle.cr_lex.proofs.Slices.{all_behind}
+use Rattle.cr_lex.specs.Step.{begins_operator, ReadsForm, Stands, token_by}
+use Rattle.cr_lex.proofs.Dispatch.{by_operator}
 
 abbrev pub token : ℕ → ℕ → Bool → TokenKind → Token
 token first past spaced kind = record { kind = kind; span = record { first = first; past = past }; spaced = spaced }
@@ -22,10 +25,6 @@ token first past spaced kind = record { kind = kind; span = record { first = fir
 form_at : (before : Before) (spaced : Bool) (rest : List ℕ) (n : ℕ) → 0 < length rest → form_of before spaced rest (suc n) ≡ form_by before spaced (get_or rest 0 0) (take n (drop 1 rest)) (drop n (drop 1 rest))
 form_at before spaced [] n some = absurd (omega arith)
 form_at before spaced (b ∷ bs) n some = refl
-
-form_of_zero : (before : Before) (spaced : Bool) (bs : List ℕ) → form_of before spaced bs 0 ≡ None
-form_of_zero before spaced [] = refl
-form_of_zero before spaced (b ∷ bs) = refl
 
 module _ (source : List ℕ) (before : Before) (at : ℕ) where
   abbrev place : ℕ
@@ -37,27 +36,18 @@ module _ (source : List ℕ) (before : Before) (at : ℕ) where
   abbrev rest : List ℕ
   rest = drop (place_of source at) source
 
-  spells_before : (past : ℕ) → past ≤ place → spells source before at past ≡ None
-  spells_before past le = let none : past - place ≡ 0 = omega arith in ap (form_of before spaced rest) none ∙ form_of_zero before spaced rest
-
   spells_behind : (n : ℕ) → place < length source → spells source before at (place + 1 + n) ≡ form_by before spaced (get_or rest 0 0) (take n (drop 1 rest)) (drop n (drop 1 rest))
   spells_behind n below = let e : place + 1 + n - place ≡ suc n = omega arith in
       ap (form_of before spaced rest) e ∙ form_at before spaced rest n (omega (arith, length-drop place source))
 
-  pub is_end : place ≡ length source → outermost before.nesting ≡ None → IsEnd source before at (token place place spaced End)
+  pub is_end : place ≡ length source → outermost before.nesting ≡ None → IsEnd source before at (token place place spaced (Plain End))
   is_end end closed = record { kind = refl; at_end = end; first = end; past = end; spaced = refl; closed = closed }
-
-  nothing_left : (n : ℕ) (s : List ℕ) → n ≡ length s → drop n s ≡ []
-  nothing_left zero [] e = refl
-  nothing_left zero (b ∷ bs) e = absurd (omega arith)
-  nothing_left (suc n) [] e = refl
-  nothing_left (suc n) (b ∷ bs) e = nothing_left n bs (omega arith)
 
   pub is_open : (quote : ℕ) → place ≡ length source → outermost before.nesting ≡ Some quote → IsStuck source before at (fault.OpenString quote)
   is_open quote end inside = record {
-    none = λ past within. spells_before past (omega arith);
+    none = λ past within. spells_before source before at past (omega arith);
     is_open = λ _ closed. absurd (let apart : None ≡ Some quote = sym closed ∙ inside in cc);
-    fault = ap (λ (o : Option ℕ). fault.OpenString (unwrap_or o place)) (sym inside) ∙ ap (fault_at before place) (sym (nothing_left place source end));
+    fault = ap (λ (o : Option ℕ). fault.OpenString (unwrap_or o place)) (sym inside) ∙ ap (fault_at before place) (sym (drop_of_length-le source (omega arith)));
   }
 
   pub is_token : (n : ℕ) (kind : TokenKind) → place < length source → IsLongest (form_by before spaced (get_or rest 0 0)) (drop 1 rest) n kind → IsToken source before at (token place (place + 1 + n) spaced kind)
@@ -86,7 +76,7 @@ module _ (source : List ℕ) (before : Before) (at : ℕ) where
     where
       all : (past : ℕ) → past ≤ length source → spells source before at past ≡ None
       all past within = elim (cases_lt place past) [
-        | inr le ↦ spells_before past le
+        | inr le ↦ spells_before source before at past le
         | inl above ↦ (let e : past ≡ place + 1 + (past - (place + 1)) = omega arith in
             ap (spells source before at) e ∙ spells_behind (past - (place + 1)) below
             ∙ none (past - (place + 1)) (omega (arith, length-drop 1 rest, length-drop place source)))
@@ -96,7 +86,7 @@ module _ (source : List ℕ) (before : Before) (at : ℕ) where
 pub utf8_behind : (source : List ℕ) (place : ℕ) → IsUtf8 source → place < length source
     → get_or (take (length source - place) (drop place source)) 0 0 < 128 → IsUtf8 (drop 1 (take (length source - place) (drop place source)))
 utf8_behind source place utf8 below ascii =
-    let same : take (length source - place) (drop place source) ≡ get_or source place 0 ∷ drop (suc place) source = all_behind place source ∙ drop-cons source place 0 below in
+    let same : take (length source - place) (drop place source) ≡ get_or source place 0 ∷ drop (suc place) source = take_rest source place ∙ drop-cons source place 0 below in
     let low : get_or source place 0 < 128 = subst (λ (bs : List ℕ). get_or bs 0 0 < 128) same ascii in
     subst (λ (bs : List ℕ). IsUtf8 (drop 1 bs)) (sym same)
     (let one : place + 1 ≡ suc place = omega arith in subst (λ (i : ℕ). IsUtf8 (drop i source)) one (IsUtf8-drop source (place + 1) utf8 (IsCharBoundary-after_ascii source place utf8 below low)))
@@ -124,7 +114,7 @@ module _ (source : List ℕ) (before : Before) (at : ℕ) where
 
   found_here : (n : ℕ) (kind : TokenKind) (t : Token) → FoundAt n kind t (place_of source at) (is_spaced source at)
   found_here n kind t below same is = subst (λ (u : Token). IsToken source before at u) (sym same)
-      (is_token source before at n kind below (subst (λ (bs : List ℕ). IsLongest (form_by before (is_spaced source at) (get_or bs 0 0)) (drop 1 bs) n kind) (all_behind (place_of source at) source) is))
+      (is_token source before at n kind below (subst (λ (bs : List ℕ). IsLongest (form_by before (is_spaced source at) (get_or bs 0 0)) (drop 1 bs) n kind) (take_rest source (place_of source at)) is))
 
   token_found : (n : ℕ) (kind : TokenKind) (t : Token) (p : ℕ) (sp : Bool) → p ≡ place_of source at → sp ≡ is_spaced source at → FoundAt n kind t p sp
   token_found n kind t p sp e f = subst (λ (q : ℕ). FoundAt n kind t q sp) (sym e) (subst (FoundAt n kind t (place_of source at)) (sym f) (found_here n kind t))
@@ -134,7 +124,7 @@ module _ (source : List ℕ) (before : Before) (at : ℕ) where
 
   stuck_here : (f : LexFault) → StuckAt f (place_of source at) (is_spaced source at)
   stuck_here f below none e =
-      let same = all_behind (place_of source at) source in
+      let same = take_rest source (place_of source at) in
       is_stuck source before at f below
       (subst (λ (bs : List ℕ). HasNone (form_by before (is_spaced source at) (get_or bs 0 0)) (drop 1 bs)) same none)
       (e ∙ ap (fault_at before (place_of source at)) same)
@@ -148,16 +138,16 @@ module _ (source : List ℕ) (before : Before) (at : ℕ) where
   stands_by p sp (Err f) e g below reads = λ apart. stuck_found f p sp e g below (reads apart).0 (reads apart).1
 
 -- an operator, or the end of a line, at the place
-pub sign_stands : (source : List ℕ) (before : Before) (at p : ℕ) (sp : Bool) (r : Result (TokenKind × ℕ) LexFault) → p ≡ place_of source at → sp ≡ is_spaced source at → p < length source
-    → begins_sign before sp (get_or source p 0) (drop (p + 1) source) ≡ true
+pub operator_stands : (source : List ℕ) (before : Before) (at p : ℕ) (sp : Bool) (r : Result (TokenKind × ℕ) LexFault) → p ≡ place_of source at → sp ≡ is_spaced source at → p < length source
+    → begins_operator before sp (get_or source p 0) (drop (p + 1) source) ≡ true
     → ReadsForm (operator_form (get_or source p 0)) (take (length source - (p + 1)) (drop (p + 1) source)) (fault.BadByte p) r → Stands source before at (token_by p sp r)
-sign_stands source before at p sp r e g below is reads =
-    let same : sliced source p ≡ get_or source p 0 ∷ drop (suc p) source = all_behind p source ∙ drop-cons source p 0 below in
+operator_stands source before at p sp r e g below is reads =
+    let same : sliced source p ≡ get_or source p 0 ∷ drop (suc p) source = take_rest source p ∙ drop-cons source p 0 below in
     let one : p + 1 ≡ suc p = omega arith in
     let here : ReadsForm (operator_form (get_or source p 0)) (drop (suc p) source) (fault.BadByte p) r =
     subst (λ (i : ℕ). ReadsForm (operator_form (get_or source p 0)) (drop i source) (fault.BadByte p) r) one
-    (subst (λ (bs : List ℕ). ReadsForm (operator_form (get_or source p 0)) bs (fault.BadByte p) r) (all_behind (p + 1) source) reads) in
-    let sign : begins_sign before sp (get_or source p 0) (drop (suc p) source) ≡ true = subst (λ (i : ℕ). begins_sign before sp (get_or source p 0) (drop i source) ≡ true) one is in
+    (subst (λ (bs : List ℕ). ReadsForm (operator_form (get_or source p 0)) bs (fault.BadByte p) r) (take_rest source (p + 1)) reads) in
+    let operator : begins_operator before sp (get_or source p 0) (drop (suc p) source) ≡ true = subst (λ (i : ℕ). begins_operator before sp (get_or source p 0) (drop i source) ≡ true) one is in
     stands_by source before at p sp r e g below
     (subst (λ (bs : List ℕ). ReadsForm (form_by before sp (get_or bs 0 0)) (drop 1 bs) (fault_at before p bs) r) (sym same)
-    (by_sign before sp p (get_or source p 0) (drop (suc p) source) r sign here))
+    (by_operator before sp p (get_or source p 0) (drop (suc p) source) r operator here))

@@ -2,8 +2,7 @@
 use Rattle.std.proofs.Common.{◌≡◌, ℕ, zero, suc, ◌+◌, ◌-◌, ◌*◌, ◌^◌, ◌<◌, ◌≤◌, min, Bool, true, false, cond, ◌&&◌, ◌||◌, List, [], ◌∷◌, length, take, drop, get_or, ◌==◌, Option, Some, None, refl, sym, ap, subst, ◌∙◌, arith, inl, inr}
 use Rattle.std.specs.Prelude.{nat_le, codes}
 use Rattle.std.specs.Str.{bytes_eq}
-use Rattle.std.proofs.lemmas.Bool.{cases_lt, leb-true}
-use Rattle.std.proofs.lemmas.Bool.Decides.{leb_tells}
+use Rattle.std.proofs.lemmas.Bool.{cases_lt, leb-true, and_from, and_parts, leb-false, lt-leb, or_cases, or_left, or_right}
 use Rattle.std.proofs.lemmas.Slice.Eq.{bytes_eq-Decides}
 use Rattle.cr_syntax.specs.declared.token.TokenKind.{TokenKind}
 use Rattle.cr_syntax.specs.Words.{is_digit, begins_name, begins_constant, is_word_byte, begins, all_word_bytes}
@@ -11,26 +10,20 @@ use Rattle.cr_syntax.specs.Numbers.{groups, digits_of, small, big, typed, number
 use Rattle.cr_lex.specs.Longest.{IsLongest, HasNone}
 use Rattle.cr_lex.specs.Words.{word_length}
 use Rattle.cr_lex.specs.Numbers.{number_form, cap, grown, capped_groups, capped_digits}
-use Rattle.cr_lex.proofs.WordBytes.{both_true, first_true, second_true, or_first, or_second, or_cases, words_within, length_within, number_goes_on}
-
-leb_false : (a b : ℕ) → nat_le a b ≡ false → b < a
-leb_false a b e = elim (leb_tells a b) [ inl (t, le) ↦ absurd cc | inr (f, lt) ↦ lt ]
-
-gt_leb : (a b : ℕ) → b < a → nat_le a b ≡ false
-gt_leb a b gt = elim (leb_tells a b) [ inl (t, le) ↦ absurd (omega arith) | inr (f, lt) ↦ f ]
+use Rattle.cr_lex.proofs.WordBytes.{words_within, length_within, number_goes_on}
 
 abbrev capped : ℕ × List ℕ → ℕ × List ℕ
 capped p = (min p.0 cap, p.1)
 
 digit_below : (b : ℕ) → is_digit b ≡ true → b - 48 < 10
-digit_below b e = let le : b ≤ 57 = leb-true b 57 (second_true (nat_le 48 b) (nat_le b 57) e) in omega arith
+digit_below b e = let le : b ≤ 57 = leb-true b 57 (and_parts (nat_le 48 b) (nat_le b 57) e).1 in omega arith
 
 grown_min : (v d : ℕ) → d < 10 → grown (min v cap) d ≡ min (10 * v + d) cap
 grown_min v d below = by_test (nat_le 922337203685477581 (min v cap)) refl
   where
     by_test : (t : Bool) → nat_le 922337203685477581 (min v cap) ≡ t → cond t cap (10 * min v cap + d) ≡ min (10 * v + d) cap
     by_test true is = let le : 922337203685477581 ≤ min v cap = leb-true 922337203685477581 (min v cap) is in omega arith
-    by_test false is = let lt : min v cap < 922337203685477581 = leb_false 922337203685477581 (min v cap) is in omega arith
+    by_test false is = let lt : min v cap < 922337203685477581 = leb-false 922337203685477581 (min v cap) is in omega arith
 
 capped_by : (t u : Bool) (v : ℕ) (xs : List ℕ) (p q p' q' : ℕ × List ℕ) → (t ≡ true → p ≡ capped p') → q ≡ capped q'
     → cond t p (cond u q (min v cap, xs)) ≡ capped (cond t p' (cond u q' (v, xs)))
@@ -57,12 +50,12 @@ digits_capped b bs e = by_test (b == 48)
 
 -- no type has a value above the bound
 not_small : (minus : Bool) (v : ℕ) → cap ≤ v → small minus v ≡ None
-not_small true v le = let no : nat_le v (2 ^ 31) ≡ false = gt_leb v (2 ^ 31) (omega arith) in rw no refl
-not_small false v le = let no : nat_le (v + 1) (2 ^ 31) ≡ false = gt_leb (v + 1) (2 ^ 31) (omega arith) in rw no refl
+not_small true v le = let no : nat_le v (2 ^ 31) ≡ false = lt-leb v (2 ^ 31) (omega arith) in rw no refl
+not_small false v le = let no : nat_le (v + 1) (2 ^ 31) ≡ false = lt-leb (v + 1) (2 ^ 31) (omega arith) in rw no refl
 
 not_big : (minus : Bool) (v : ℕ) → cap ≤ v → big minus v ≡ None
-not_big true v le = let no : nat_le v (2 ^ 63) ≡ false = gt_leb v (2 ^ 63) (omega arith) in rw no refl
-not_big false v le = let no : nat_le (v + 1) (2 ^ 63) ≡ false = gt_leb (v + 1) (2 ^ 63) (omega arith) in rw no refl
+not_big true v le = let no : nat_le v (2 ^ 63) ≡ false = lt-leb v (2 ^ 63) (omega arith) in rw no refl
+not_big false v le = let no : nat_le (v + 1) (2 ^ 63) ≡ false = lt-leb (v + 1) (2 ^ 63) (omega arith) in rw no refl
 
 same_small : (minus : Bool) (v : ℕ) → small minus (min v cap) ≡ small minus v
 same_small minus v = elim (cases_lt v cap) [
@@ -101,16 +94,16 @@ number_of_text minus (b ∷ bs) v n digit e =
 -- ---- a number is letters, digits and `_`
 
 digit_is_word : (b : ℕ) → is_digit b ≡ true → is_word_byte b ≡ true
-digit_is_word b e = or_second (begins_name b || begins_constant b) (is_digit b) e
+digit_is_word b e = or_right (begins_name b || begins_constant b) (is_digit b) e
 
 line_is_word : (b : ℕ) → (b == 95) ≡ true → is_word_byte b ≡ true
-line_is_word b e = or_first (begins_name b || begins_constant b) (is_digit b) (or_first (begins_name b) (begins_constant b) (or_second (nat_le 97 b && nat_le b 122) (b == 95) e))
+line_is_word b e = or_left (begins_name b || begins_constant b) (is_digit b) (or_left (begins_name b) (begins_constant b) (or_right (nat_le 97 b && nat_le b 122) (b == 95) e))
 
 words_by : (b : ℕ) (t u : Bool) (bs : List ℕ) (p q : ℕ × List ℕ) (v : ℕ) → is_digit b ≡ t → (b == 95 && begins is_digit bs) ≡ u
     → (all_word_bytes p.1 ≡ true → all_word_bytes bs ≡ true) → (all_word_bytes q.1 ≡ true → all_word_bytes bs ≡ true)
     → all_word_bytes (cond t p (cond u q (v, b ∷ bs))).1 ≡ true → all_word_bytes (b ∷ bs) ≡ true
-words_by b true u bs p q v is also f g e = both_true (is_word_byte b) (all_word_bytes bs) (digit_is_word b is) (f e)
-words_by b false true bs p q v is also f g e = both_true (is_word_byte b) (all_word_bytes bs) (line_is_word b (first_true (b == 95) (begins is_digit bs) also)) (g e)
+words_by b true u bs p q v is also f g e = and_from (is_word_byte b) (all_word_bytes bs) (digit_is_word b is) (f e)
+words_by b false true bs p q v is also f g e = and_from (is_word_byte b) (all_word_bytes bs) (line_is_word b (and_parts (b == 95) (begins is_digit bs) also).0) (g e)
 words_by b false false bs p q v is also f g e = e
 
 groups_words : (v : ℕ) (bs : List ℕ) → all_word_bytes (groups v bs).1 ≡ true → all_word_bytes bs ≡ true
@@ -142,7 +135,7 @@ digits_words b bs e = by_test (b == 48) e
 
 number_words : (minus : Bool) (text : List ℕ) (kind : TokenKind) → begins is_digit text ≡ true → number_of minus text ≡ Some kind → all_word_bytes text ≡ true
 number_words minus [] kind digit e = refl
-number_words minus (b ∷ bs) kind digit e = both_true (is_word_byte b) (all_word_bytes bs) (digit_is_word b digit)
+number_words minus (b ∷ bs) kind digit e = and_from (is_word_byte b) (all_word_bytes bs) (digit_is_word b digit)
     (digits_words b bs (suffix_words minus (digits_of b bs).0 (digits_of b bs).1 kind e))
 
 -- ---- the one front that may be a number

@@ -1,9 +1,10 @@
 -- Letters, digits and `_` at the front.
-use Rattle.std.proofs.Common.{◌≡◌, ℕ, zero, suc, ◌<◌, ◌≤◌, Bool, true, false, cond, not, ◌&&◌, ◌||◌, List, [], ◌∷◌, length, take, drop, ◌==◌, Some, None, refl, ap, ◌∙◌, arith, lit<, ◌⊎◌, inl, inr}
+use Rattle.std.proofs.Common.{◌≡◌, ℕ, zero, suc, ◌<◌, ◌≤◌, Bool, true, false, cond, not, ◌&&◌, ◌||◌, List, [], ◌∷◌, length, take, drop, ◌==◌, Some, None, refl, ap, arith, inl, inr}
+use Rattle.std.proofs.lemmas.Str.Ascii.{IsAscii-cons, IsAscii-nil}
 use Rattle.std.specs.Str.{IsAscii, IsUtf8}
 use Rattle.std.proofs.lemmas.Str.{IsUtf8-from_ascii}
 use Rattle.std.specs.Prelude.{nat_le}
-use Rattle.std.proofs.lemmas.Bool.{leb-true, eqb-true}
+use Rattle.std.proofs.lemmas.Bool.{leb-true, eqb-true, and_from, and_parts, both_ways, or_cases, or_left}
 use Rattle.cr_syntax.specs.declared.token.TokenKind.{TokenKind}
 use Rattle.cr_syntax.specs.declared.token.TokenKind.TheVariants as k
 use Rattle.cr_syntax.specs.Words.{is_digit, begins_name, begins_constant, is_word_byte, begins, all_word_bytes}
@@ -12,56 +13,21 @@ use Rattle.cr_syntax.specs.Lexes.{when}
 use Rattle.cr_lex.specs.Longest.{IsLongest, HasNone}
 use Rattle.cr_lex.specs.Words.{word_length, constant_form, variable_form}
 
-pub both_true : (b c : Bool) → b ≡ true → c ≡ true → (b && c) ≡ true
-both_true b c p q = ap (λ (x : Bool). x && c) p ∙ q
-
-pub first_true : (b c : Bool) → (b && c) ≡ true → b ≡ true
-first_true true c e = refl
-first_true false c e = e
-
-pub second_true : (b c : Bool) → (b && c) ≡ true → c ≡ true
-second_true true c e = e
-second_true false c e = absurd cc
-
-pub or_second : (b c : Bool) → c ≡ true → (b || c) ≡ true
-or_second true c e = refl
-or_second false c e = e
-
-pub or_first : (b c : Bool) → b ≡ true → (b || c) ≡ true
-or_first b c e = ap (λ (x : Bool). x || c) e
-
-pub or_cases : (b c : Bool) → (b || c) ≡ true → (b ≡ true) ⊎ (c ≡ true)
-or_cases true c e = inl refl
-or_cases false c e = inr e
-
-pub and_swapped : (b c : Bool) → (b && c) ≡ (c && b)
-and_swapped true true = refl
-and_swapped true false = refl
-and_swapped false true = refl
-and_swapped false false = refl
-
-pub or_false : (b c : Bool) → (b || c) ≡ false → (b ≡ false) × (c ≡ false)
-or_false false c e = (refl, e)
-or_false true c e = absurd cc
-
-pub not_both : {A : Type 0} (b : Bool) → b ≡ true → b ≡ false → A
-not_both b p q = absurd cc
-
 -- the bytes up to the length are all of them, and no more
 pub take_words : (bs : List ℕ) → all_word_bytes (take (word_length bs) bs) ≡ true
 take_words [] = refl
 take_words (b ∷ bs) = by_test (is_word_byte b) refl (take_words bs)
   where
     by_test : (t : Bool) → is_word_byte b ≡ t → all_word_bytes (take (word_length bs) bs) ≡ true → all_word_bytes (take (cond t (suc (word_length bs)) 0) (b ∷ bs)) ≡ true
-    by_test true is rest = both_true (is_word_byte b) (all_word_bytes (take (word_length bs) bs)) is rest
+    by_test true is rest = and_from (is_word_byte b) (all_word_bytes (take (word_length bs) bs)) is rest
     by_test false is rest = refl
 
 pub words_within : (bs : List ℕ) (m : ℕ) → m ≤ length bs → all_word_bytes (take m bs) ≡ true → m ≤ word_length bs
 words_within bs zero within e = omega arith
 words_within [] (suc m) within e = absurd (omega arith)
 words_within (b ∷ bs) (suc m) within e =
-    let rest : m ≤ word_length bs = words_within bs m (omega arith) (second_true (is_word_byte b) (all_word_bytes (take m bs)) e) in
-    let is : is_word_byte b ≡ true = first_true (is_word_byte b) (all_word_bytes (take m bs)) e in
+    let rest : m ≤ word_length bs = words_within bs m (omega arith) (and_parts (is_word_byte b) (all_word_bytes (take m bs)) e).1 in
+    let is : is_word_byte b ≡ true = (and_parts (is_word_byte b) (all_word_bytes (take m bs)) e).0 in
     let here : word_length (b ∷ bs) ≡ suc (word_length bs) = ap (λ (t : Bool). cond t (suc (word_length bs)) 0) is in
     omega arith
 
@@ -116,7 +82,7 @@ begins_take [] (suc n) e some = e
 begins_take (b ∷ bs) (suc n) e some = e
 
 name_is_word : (b : ℕ) → begins_name b ≡ true → is_word_byte b ≡ true
-name_is_word b e = or_first (begins_name b || begins_constant b) (is_digit b) (or_first (begins_name b) (begins_constant b) e)
+name_is_word b e = or_left (begins_name b || begins_constant b) (is_digit b) (or_left (begins_name b) (begins_constant b) e)
 
 some_word : (bs : List ℕ) → begins begins_name bs ≡ true → 0 < word_length bs
 some_word [] e = absurd cc
@@ -126,9 +92,9 @@ pub longest_variable : (bs : List ℕ) → begins begins_name bs ≡ true → Is
 longest_variable bs e = record {
   within = length_within bs;
   here = when_true (begins begins_name (take (word_length bs) bs) && all_word_bytes (take (word_length bs) bs)) (k.InstanceVariable (take (word_length bs) bs))
-      (both_true (begins begins_name (take (word_length bs) bs)) (all_word_bytes (take (word_length bs) bs)) (begins_take bs (word_length bs) e (some_word bs e)) (take_words bs));
+      (and_from (begins begins_name (take (word_length bs) bs)) (all_word_bytes (take (word_length bs) bs)) (begins_take bs (word_length bs) e (some_word bs e)) (take_words bs));
   longest = λ m above within. when_false (begins begins_name (take m bs) && all_word_bytes (take m bs)) (k.InstanceVariable (take m bs))
-      (λ all. let le : m ≤ word_length bs = words_within bs m within (second_true (begins begins_name (take m bs)) (all_word_bytes (take m bs)) all) in absurd (omega arith));
+      (λ all. let le : m ≤ word_length bs = words_within bs m within (and_parts (begins begins_name (take m bs)) (all_word_bytes (take m bs)) all).1 in absurd (omega arith));
 }
 
 no_begin : (bs : List ℕ) (n : ℕ) → begins begins_name bs ≡ false → begins begins_name (take n bs) ≡ false
@@ -138,20 +104,20 @@ no_begin (b ∷ bs) (suc n) e = e
 
 pub no_variable : (bs : List ℕ) → begins begins_name bs ≡ false → HasNone variable_form bs
 no_variable bs e m within = when_false (begins begins_name (take m bs) && all_word_bytes (take m bs)) (k.InstanceVariable (take m bs))
-    (λ all. not_both (begins begins_name (take m bs)) (first_true (begins begins_name (take m bs)) (all_word_bytes (take m bs)) all) (no_begin bs m e))
+    (λ all. absurd (both_ways (begins begins_name (take m bs)) (no_begin bs m e) (and_parts (begins begins_name (take m bs)) (all_word_bytes (take m bs)) all).0))
 
 -- such bytes are ASCII
 digit_is_ascii : (b : ℕ) → is_digit b ≡ true → b < 128
-digit_is_ascii b e = let le : b ≤ 57 = leb-true b 57 (second_true (nat_le 48 b) (nat_le b 57) e) in omega arith
+digit_is_ascii b e = let le : b ≤ 57 = leb-true b 57 (and_parts (nat_le 48 b) (nat_le b 57) e).1 in omega arith
 
 pub name_is_ascii : (b : ℕ) → begins_name b ≡ true → b < 128
 name_is_ascii b e = elim (or_cases (nat_le 97 b && nat_le b 122) (b == 95) e) [
-  | inl letter ↦ (let le : b ≤ 122 = leb-true b 122 (second_true (nat_le 97 b) (nat_le b 122) letter) in omega arith)
+  | inl letter ↦ (let le : b ≤ 122 = leb-true b 122 (and_parts (nat_le 97 b) (nat_le b 122) letter).1 in omega arith)
   | inr line ↦ (let is : b ≡ 95 = eqb-true b 95 line in omega arith)
 ]
 
 constant_is_ascii : (b : ℕ) → begins_constant b ≡ true → b < 128
-constant_is_ascii b e = let le : b ≤ 90 = leb-true b 90 (second_true (nat_le 65 b) (nat_le b 90) e) in omega arith
+constant_is_ascii b e = let le : b ≤ 90 = leb-true b 90 (and_parts (nat_le 65 b) (nat_le b 90) e).1 in omega arith
 
 pub word_is_ascii : (b : ℕ) → is_word_byte b ≡ true → b < 128
 word_is_ascii b e = elim (or_cases (begins_name b || begins_constant b) (is_digit b) e) [
@@ -159,19 +125,12 @@ word_is_ascii b e = elim (or_cases (begins_name b || begins_constant b) (is_digi
   | inl letter ↦ elim (or_cases (begins_name b) (begins_constant b) letter) [ inl name ↦ name_is_ascii b name | inr constant ↦ constant_is_ascii b constant ]
 ]
 
-pub ascii_more : (b : ℕ) (bs : List ℕ) → b < 128 → IsAscii bs → IsAscii (b ∷ bs)
-ascii_more b bs below rest zero = below
-ascii_more b bs below rest (suc i) = rest i
-
-pub nil_ascii : IsAscii []
-nil_ascii i = lit< tt
-
 pub ascii_words : (bs : List ℕ) → all_word_bytes bs ≡ true → IsAscii bs
-ascii_words [] e = nil_ascii
-ascii_words (b ∷ bs) e = ascii_more b bs (word_is_ascii b (first_true (is_word_byte b) (all_word_bytes bs) e)) (ascii_words bs (second_true (is_word_byte b) (all_word_bytes bs) e))
+ascii_words [] e = IsAscii-nil
+ascii_words (b ∷ bs) e = IsAscii-cons b bs (word_is_ascii b (and_parts (is_word_byte b) (all_word_bytes bs) e).0) (ascii_words bs (and_parts (is_word_byte b) (all_word_bytes bs) e).1)
 
 pub utf8_words : (bs : List ℕ) → IsUtf8 (take (word_length bs) bs)
 utf8_words bs = IsUtf8-from_ascii (take (word_length bs) bs) (ascii_words (take (word_length bs) bs) (take_words bs))
 
 pub utf8_constant : (b : ℕ) (bs : List ℕ) → begins_constant b ≡ true → IsUtf8 (b ∷ take (word_length bs) bs)
-utf8_constant b bs e = IsUtf8-from_ascii (b ∷ take (word_length bs) bs) (ascii_more b (take (word_length bs) bs) (constant_is_ascii b e) (ascii_words (take (word_length bs) bs) (take_words bs)))
+utf8_constant b bs e = IsUtf8-from_ascii (b ∷ take (word_length bs) bs) (IsAscii-cons b (take (word_length bs) bs) (constant_is_ascii b e) (ascii_words (take (word_length bs) bs) (take_words bs)))

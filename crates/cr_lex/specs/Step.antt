@@ -3,7 +3,9 @@ use Rattle.std.specs.Prelude.{◌≡◌, ◌≢◌, ℕ, ◌+◌, Bool, false, n
 use Rattle.cr_syntax.specs.declared.fault.LexFault.{LexFault}
 use Rattle.cr_syntax.specs.declared.fault.LexFault.TheVariants.{NoMemory}
 use Rattle.cr_syntax.specs.declared.token.Token.{Token}
+use Rattle.cr_syntax.specs.declared.look.TokenLook.{TokenLook}
 use Rattle.cr_syntax.specs.declared.token.TokenKind.{TokenKind}
+use Rattle.cr_syntax.specs.declared.token.TokenKind.TheVariants.{Plain}
 use Rattle.cr_syntax.specs.Words.{is_digit, begins}
 use Rattle.cr_syntax.specs.Lexes.{Before, in_insertion, takes_minus, behind, IsToken, IsEnd}
 use Rattle.cr_syntax.specs.Faults.{IsStuck}
@@ -16,13 +18,21 @@ abbrev pub before_of : Seen → Before
 before_of seen = record { nesting = seen.nesting.items; last = seen.last }
 
 -- whether what begins with the byte can only be an operator or the end of a line; `more` stands behind it
-abbrev pub begins_sign : Before → Bool → ℕ → List ℕ → Bool
-begins_sign before spaced b more =
-    not (begins_content b) && (not (b == 125 && in_insertion before) && not (b == 45 && (takes_minus before spaced && begins is_digit more)))
+abbrev pub begins_operator : Before → Bool → ℕ → List ℕ → Bool
+begins_operator before spaced b more =
+    not (begins_content b) && (not (b == 125 && in_insertion before) && not (b == 45 && (begins is_digit more && takes_minus before spaced)))
 
 -- a number from its first digit on
 abbrev pub digit_form : ℕ → Form
 digit_form b text after = number_form false (b ∷ text) after
+
+-- an operator as a kind
+abbrev pub with_kind : TokenLook × ℕ → TokenKind × ℕ
+with_kind found = (Plain found.0, found.1)
+
+abbrev pub form_with_kind : Result (TokenLook × ℕ) LexFault → Result (TokenKind × ℕ) LexFault
+form_with_kind (Ok found) = Ok (with_kind found)
+form_with_kind (Err e) = Err e
 
 -- A reader found the longest front that has the form, or no front has it and there is this fault.
 abbrev pub ReadsForm : Form → List ℕ → LexFault → Result (TokenKind × ℕ) LexFault → Type 0

@@ -1,9 +1,9 @@
 -- Forms behind a first byte: words, constants and instance variables.
 use Rattle.std.specs.Prelude.{ℕ, suc, Bool, not, ◌&&◌, ◌||◌, if◌then◌else◌, ◌==◌, List, [], ◌∷◌, Option, None}
-use Rattle.cr_syntax.specs.declared.token.TokenKind.{TokenKind}
+use Rattle.cr_syntax.specs.declared.look.TokenLook.{TokenLook}
 use Rattle.cr_syntax.specs.declared.token.TokenKind.TheVariants as k
 use Rattle.cr_syntax.specs.Words.{is_digit, begins_name, begins_constant, is_word_byte, is_mark, begins, all_word_bytes, is_word_end, word_of}
-use Rattle.cr_syntax.specs.Operators.{operator_of}
+use Rattle.cr_syntax.specs.Operators.{operator_look, operator_of}
 use Rattle.cr_syntax.specs.Lexes.{when}
 use Rattle.cr_lex.specs.Longest.{Form}
 
@@ -37,11 +37,11 @@ marked_length [] = 0
 marked_length (b ∷ bs) = if is_word_byte b then suc (marked_length bs) else (if is_mark b && not (begins is_equal bs) then 1 else 0)
 
 -- the operator of a byte and the bytes at the front, where there are as many
-abbrev pub two_at : ℕ → List ℕ → Option TokenKind
+abbrev pub two_at : ℕ → List ℕ → Option TokenLook
 two_at a [] = None
-two_at a (b ∷ bs) = operator_of (a ∷ b ∷ [])
+two_at a (b ∷ bs) = operator_look (a ∷ b ∷ [])
 
-abbrev pub three_at : ℕ → List ℕ → Option TokenKind
+abbrev pub three_at : ℕ → List ℕ → Option TokenLook
 three_at a [] = None
 three_at a (b ∷ []) = None
-three_at a (b ∷ c ∷ bs) = operator_of (a ∷ b ∷ c ∷ [])
+three_at a (b ∷ c ∷ bs) = operator_look (a ∷ b ∷ c ∷ [])

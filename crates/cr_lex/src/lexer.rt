@@ -2,19 +2,19 @@
 ghost use Rattle.std.specs.Prelude.{◌≡◌, ◌≢◌, ◌<◌, ◌≤◌, ◌+◌, ◌^◌, ◌==◌, ◌&&◌, length, vec_len, vec_capacity, Some, drop, slice_index, unwrap_or, false, true, OnOk, IfOk, IfErr};
 ghost use Rattle.std.specs.Str.{IsUtf8};
 ghost use Rattle.cr_syntax.specs.declared.fault.LexFault.{LexFault};
+ghost use Rattle.cr_syntax.specs.declared.token.TheConstants.{MAX_SOURCE_BYTES};
 ghost use Rattle.cr_syntax.specs.declared.fault.LexFault.TheVariants as fault;
 ghost use Rattle.cr_syntax.specs.Lexes as spec;
 ghost use Rattle.cr_syntax.specs.Words as class;
 ghost use Rattle.cr_syntax.specs.Faults.{text_fault, fault_at, TextFails};
 ghost use Rattle.cr_lex.specs.Words.{word_form, constant_form, variable_form, operator_form};
-ghost use Rattle.cr_lex.specs.Looks.{form_with_kind};
 ghost use Rattle.cr_lex.specs.Numbers.{number_form};
 ghost use Rattle.cr_lex.specs.Texts.{part_form};
-ghost use Rattle.cr_lex.specs.Step.{before_of, begins_sign as is_sign, digit_form, token_at, token_by, Adds, ReadsForm, Stands, Turns};
+ghost use Rattle.cr_lex.specs.Step.{before_of, begins_operator as is_operator, digit_form, form_with_kind, token_at, token_by, Adds, ReadsForm, Stands, Turns};
 
 use crate::bytes::{begins_constant, begins_content, begins_digit, begins_name, gap_len, is_digit};
 use crate::numbers::number;
-use crate::operators::{operator, plain_kind};
+use crate::operators::operator;
 use crate::texts::{PartFault, part};
 use crate::words::{constant, variable, word};
 use cr_base::NoMemory;
@@ -32,7 +32,7 @@ pub struct Seen {
 type Form = Result<(TokenKind, usize), LexFault>;
 
 /// The same of an operator or the end of a line, by its look.
-type Sign = Result<(TokenLook, usize), LexFault>;
+type PlainForm = Result<(TokenLook, usize), LexFault>;
 
 /// The opening quote of the outermost text in whose insertion this is.
 fn outermost(nesting: &[Open]) -> Option<u32>
@@ -102,10 +102,7 @@ fn minus_token(place: u32, more: &[u8]) -> Form
     requires { class.begins class.is_digit more.now ≡ true }
     ensures { ReadsForm (number_form true) more.now (fault.BadNumber place) result }
 {
-    match number(true, more) {
-        Some(found) => Ok(found),
-        None => Err(LexFault::BadNumber(place)),
-    }
+    number(true, more).ok_or(LexFault::BadNumber(place))
 }
 
 fn word_token(alloc: Global, rest: &[u8]) -> Form
@@ -113,10 +110,7 @@ fn word_token(alloc: Global, rest: &[u8]) -> Form
     requires begins { class.begins_name (slice_index rest.now 0) ≡ true }
     ensures { (f : LexFault) → ReadsForm (word_form (slice_index rest.now 0)) (drop 1 rest.now) f result }
 {
-    match word(alloc, rest) {
-        Ok(found) => Ok(found),
-        Err(NoMemory) => Err(LexFault::NoMemory),
-    }
+    Ok(word(alloc, rest)?)
 }
 
 fn constant_token(alloc: Global, rest: &[u8]) -> Form
@@ -124,20 +118,13 @@ fn constant_token(alloc: Global, rest: &[u8]) -> Form
     requires begins { class.begins_constant (slice_index rest.now 0) ≡ true }
     ensures { (f : LexFault) → ReadsForm (constant_form (slice_index rest.now 0)) (drop 1 rest.now) f result }
 {
-    match constant(alloc, rest) {
-        Ok(found) => Ok(found),
-        Err(NoMemory) => Err(LexFault::NoMemory),
-    }
+    Ok(constant(alloc, rest)?)
 }
 
 fn variable_token(alloc: Global, place: u32, more: &[u8]) -> Form
     ensures { ReadsForm variable_form more.now (fault.BadByte place) result }
 {
-    match variable(alloc, more) {
-        Ok(Some(found)) => Ok(found),
-        Ok(None) => Err(LexFault::BadByte(place)),
-        Err(NoMemory) => Err(LexFault::NoMemory),
-    }
+    variable(alloc, more)?.ok_or(LexFault::BadByte(place))
 }
 
 /// The part of a text that begins at `place`, by its quote or the `}` of an insertion.
@@ -154,13 +141,10 @@ fn part_token(alloc: Global, quoted: bool, seen: &Seen, place: u32, more: &[u8])
     }
 }
 
-fn operator_token(place: u32, first: u8, more: &[u8]) -> Sign
+fn operator_token(place: u32, first: u8, more: &[u8]) -> PlainForm
     ensures { ReadsForm (operator_form first) more.now (fault.BadByte place) (form_with_kind result) }
 {
-    match operator(first, more) {
-        Some(found) => Ok(found),
-        None => Err(LexFault::BadByte(place)),
-    }
+    operator(first, more).ok_or(LexFault::BadByte(place))
 }
 
 /// Whether the byte is a `}` that ends an insertion.
@@ -177,16 +161,15 @@ fn takes_minus(seen: &Seen, spaced: bool) -> bool
 }
 
 /// Whether the byte is a `-` that belongs to a number.
-#[tactic(auto, using(crate::proofs::WordBytes::and_swapped))]
 fn signs_number(first: u8, more: &[u8], seen: &Seen, spaced: bool) -> bool
-    ensures { result ≡ (first == 45 && (spec.takes_minus (before_of seen.now) spaced && class.begins class.is_digit more.now)) }
+    ensures { result ≡ (first == 45 && (class.begins class.is_digit more.now && spec.takes_minus (before_of seen.now) spaced)) }
 {
     first == b'-' && (begins_digit(more) && takes_minus(seen, spaced))
 }
 
 /// Whether what stands here can only be an operator or the end of a line.
-fn begins_sign(first: u8, more: &[u8], seen: &Seen, spaced: bool) -> bool
-    ensures { result ≡ is_sign (before_of seen.now) spaced first more.now }
+fn begins_operator(first: u8, more: &[u8], seen: &Seen, spaced: bool) -> bool
+    ensures { result ≡ is_operator (before_of seen.now) spaced first more.now }
 {
     !begins_content(first)
         && (!ends_insertion(first, seen) && !signs_number(first, more, seen, spaced))
@@ -202,7 +185,7 @@ fn outer_quote(seen: &Seen, place: u32) -> u32
 /// The form of an instance variable, a text or a signed number.
 fn marked_form(alloc: Global, seen: &Seen, spaced: bool, place: u32, rest: &[u8]) -> Form
     requires some { 0 < length rest.now }
-    requires content { is_sign (before_of seen.now) spaced (slice_index rest.now 0) (drop 1 rest.now) ≡ false }
+    requires content { is_operator (before_of seen.now) spaced (slice_index rest.now 0) (drop 1 rest.now) ≡ false }
     requires digit { class.is_digit (slice_index rest.now 0) ≡ false }
     requires name { class.begins_name (slice_index rest.now 0) ≡ false }
     requires constant { class.begins_constant (slice_index rest.now 0) ≡ false }
@@ -227,7 +210,7 @@ fn marked_form(alloc: Global, seen: &Seen, spaced: bool, place: u32, rest: &[u8]
 /// The form at the front, by its first byte, where no operator begins.
 fn form(alloc: Global, seen: &Seen, spaced: bool, place: u32, rest: &[u8]) -> Form
     requires some { 0 < length rest.now }
-    requires content { is_sign (before_of seen.now) spaced (slice_index rest.now 0) (drop 1 rest.now) ≡ false }
+    requires content { is_operator (before_of seen.now) spaced (slice_index rest.now 0) (drop 1 rest.now) ≡ false }
     requires fits { place + length rest.now < 2 ^ 32 }
     requires utf8 { slice_index rest.now 0 < 128 → IsUtf8 (drop 1 rest.now) }
     ensures { ReadsForm (spec.form_by (before_of seen.now) spaced (slice_index rest.now 0)) (drop 1 rest.now) (fault_at (before_of seen.now) place rest.now) result }
@@ -263,20 +246,20 @@ fn is_spaced(source: &[u8], at: usize, place: usize) -> bool
 }
 
 /// Whether the token at `place` can only be an operator or the end of a line.
-fn is_sign_at(source: &[u8], seen: &Seen, place: usize, spaced: bool) -> bool
+fn is_operator_at(source: &[u8], seen: &Seen, place: usize, spaced: bool) -> bool
     requires within { place < length source.now }
-    ensures { result ≡ is_sign (before_of seen.now) spaced (slice_index source.now place) (drop (place + 1) source.now) }
+    ensures { result ≡ is_operator (before_of seen.now) spaced (slice_index source.now place) (drop (place + 1) source.now) }
 {
-    begins_sign(source[place], &source[place + 1..], seen, spaced)
+    begins_operator(source[place], &source[place + 1..], seen, spaced)
 }
 
 /// The look of the operator at `place`, and how many of its bytes stand behind the first.
-fn sign_at(source: &[u8], seen: &Seen, at: usize, place: usize, spaced: bool) -> Sign
-    requires size { length source.now ≤ 1048576 }
+fn operator_at(source: &[u8], seen: &Seen, at: usize, place: usize, spaced: bool) -> PlainForm
+    requires size { length source.now ≤ MAX_SOURCE_BYTES }
     requires value { place ≡ spec.place_of source.now at }
     requires within { place < length source.now }
     requires gap { spaced ≡ spec.is_spaced source.now at }
-    requires sign { is_sign (before_of seen.now) spaced (slice_index source.now place) (drop (place + 1) source.now) ≡ true }
+    requires operator { is_operator (before_of seen.now) spaced (slice_index source.now place) (drop (place + 1) source.now) ≡ true }
     ensures { Stands source.now (before_of seen.now) at (token_by place spaced (form_with_kind result)) }
 {
     operator_token(place as u32, source[place], &source[place + 1..])
@@ -284,12 +267,12 @@ fn sign_at(source: &[u8], seen: &Seen, at: usize, place: usize, spaced: bool) ->
 
 /// The kind of the other token at `place`, and how many of its bytes stand behind the first.
 fn kind_at(alloc: Global, source: &[u8], seen: &Seen, at: usize, place: usize, spaced: bool) -> Form
-    requires size { length source.now ≤ 1048576 }
+    requires size { length source.now ≤ MAX_SOURCE_BYTES }
     requires utf8 { IsUtf8 source.now }
     requires value { place ≡ spec.place_of source.now at }
     requires within { place < length source.now }
     requires gap { spaced ≡ spec.is_spaced source.now at }
-    requires content { is_sign (before_of seen.now) spaced (slice_index source.now place) (drop (place + 1) source.now) ≡ false }
+    requires content { is_operator (before_of seen.now) spaced (slice_index source.now place) (drop (place + 1) source.now) ≡ false }
     ensures { Stands source.now (before_of seen.now) at (token_by place spaced result) }
 {
     form(alloc, seen, spaced, place as u32, &source[place..])
@@ -303,7 +286,7 @@ fn end(
     spaced: bool,
     tokens: &mut Vec<Token>,
 ) -> Result<Option<usize>, LexFault>
-    requires size { length source.now ≤ 1048576 }
+    requires size { length source.now ≤ MAX_SOURCE_BYTES }
     requires at_end { spec.place_of source.now at ≡ length source.now }
     requires gap { spaced ≡ spec.is_spaced source.now at }
     requires room { vec_len tokens.old < vec_capacity tokens.old }
@@ -315,7 +298,7 @@ fn end(
     let past = source.len() as u32;
     let span = Span { first: past, past };
     tokens.push_reserved(Token {
-        kind: TokenKind::End,
+        kind: TokenKind::Plain(TokenLook::End),
         span,
         spaced,
     });
@@ -346,7 +329,7 @@ fn nest(nesting: &mut Vec<Open>, first: u32, look: TokenLook) -> Result<(), NoMe
 
 /// The token of this kind at `place`, with so many bytes behind the first.
 fn token_of(place: usize, spaced: bool, kind: TokenKind, len: usize) -> Token
-    requires { place + 1 + len ≤ 1048576 }
+    requires { place + 1 + len ≤ MAX_SOURCE_BYTES }
     ensures { result ≡ token_at place spaced kind len }
 {
     let span = Span {
@@ -365,9 +348,7 @@ fn added(token: Token, seen: &mut Seen, tokens: &mut Vec<Token>) -> Result<Optio
 {
     let past = token.span.past as usize;
     let look = token.kind.look();
-    if nest(&mut seen.nesting, token.span.first, look).is_err() {
-        return Err(LexFault::NoMemory);
-    }
+    nest(&mut seen.nesting, token.span.first, look)?;
     seen.last = look;
     tokens.push_reserved(token);
     Ok(Some(past))
@@ -376,7 +357,7 @@ fn added(token: Token, seen: &mut Seen, tokens: &mut Vec<Token>) -> Result<Optio
 /// A turn at an operator or the end of a line.
 ///
 /// It stands apart, so that such a token is built where it goes and not copied from call to call.
-fn sign_turn(
+fn operator_turn(
     source: &[u8],
     seen: &mut Seen,
     at: usize,
@@ -384,18 +365,17 @@ fn sign_turn(
     spaced: bool,
     tokens: &mut Vec<Token>,
 ) -> Result<Option<usize>, LexFault>
-    requires size { length source.now ≤ 1048576 }
+    requires size { length source.now ≤ MAX_SOURCE_BYTES }
     requires value { place ≡ spec.place_of source.now at }
     requires within { place < length source.now }
     requires gap { spaced ≡ spec.is_spaced source.now at }
-    requires sign { is_sign (before_of seen.old) spaced (slice_index source.now place) (drop (place + 1) source.now) ≡ true }
+    requires operator { is_operator (before_of seen.old) spaced (slice_index source.now place) (drop (place + 1) source.now) ≡ true }
     requires room { vec_len tokens.old < vec_capacity tokens.old }
     ensures { Turns source.now (before_of seen.old) at tokens.old.items result (before_of seen.new) tokens.new.items }
 {
-    match sign_at(source, seen, at, place, spaced) {
-        Ok((look, len)) => added(token_of(place, spaced, plain_kind(look), len), seen, tokens),
-        Err(fault) => Err(fault),
-    }
+    let (look, len) = operator_at(source, seen, at, place, spaced)?;
+    let kind = TokenKind::Plain(look);
+    added(token_of(place, spaced, kind, len), seen, tokens)
 }
 
 /// A turn at another token.
@@ -408,19 +388,17 @@ fn content_turn(
     spaced: bool,
     tokens: &mut Vec<Token>,
 ) -> Result<Option<usize>, LexFault>
-    requires size { length source.now ≤ 1048576 }
+    requires size { length source.now ≤ MAX_SOURCE_BYTES }
     requires utf8 { IsUtf8 source.now }
     requires value { place ≡ spec.place_of source.now at }
     requires within { place < length source.now }
     requires gap { spaced ≡ spec.is_spaced source.now at }
-    requires content { is_sign (before_of seen.old) spaced (slice_index source.now place) (drop (place + 1) source.now) ≡ false }
+    requires content { is_operator (before_of seen.old) spaced (slice_index source.now place) (drop (place + 1) source.now) ≡ false }
     requires room { vec_len tokens.old < vec_capacity tokens.old }
     ensures { Turns source.now (before_of seen.old) at tokens.old.items result (before_of seen.new) tokens.new.items }
 {
-    match kind_at(alloc, source, seen, at, place, spaced) {
-        Ok((kind, len)) => added(token_of(place, spaced, kind, len), seen, tokens),
-        Err(fault) => Err(fault),
-    }
+    let (kind, len) = kind_at(alloc, source, seen, at, place, spaced)?;
+    added(token_of(place, spaced, kind, len), seen, tokens)
 }
 
 /// One turn: the next token goes last. Some place where it ends, or none where it is End.
@@ -431,7 +409,7 @@ fn turn(
     at: usize,
     tokens: &mut Vec<Token>,
 ) -> Result<Option<usize>, LexFault>
-    requires size { length source.now ≤ 1048576 }
+    requires size { length source.now ≤ MAX_SOURCE_BYTES }
     requires utf8 { IsUtf8 source.now }
     requires within { at ≤ length source.now }
     ensures { Turns source.now (before_of seen.old) at tokens.old.items result (before_of seen.new) tokens.new.items }
@@ -444,15 +422,15 @@ fn turn(
     if place == source.len() {
         return end(source, seen, at, spaced, tokens);
     }
-    if is_sign_at(source, seen, place, spaced) {
-        return sign_turn(source, seen, at, place, spaced, tokens);
+    if is_operator_at(source, seen, place, spaced) {
+        return operator_turn(source, seen, at, place, spaced, tokens);
     }
     content_turn(alloc, source, seen, at, place, spaced, tokens)
 }
 
 /// The tokens of a text, or its fault.
 pub fn text_tokens(alloc: Global, source: &[u8]) -> Result<Vec<Token>, LexFault>
-    requires size { length source.now ≤ 1048576 }
+    requires size { length source.now ≤ MAX_SOURCE_BYTES }
     requires utf8 { IsUtf8 source.now }
     ensures ok { IfOk result (λ tokens. spec.TextLexes source.now tokens.items) }
     ensures err { IfErr result (λ f. f ≢ fault.NoMemory → TextFails source.now f) }

@@ -2,6 +2,7 @@
 ghost use Rattle.std.specs.Prelude.{◌≡◌, ◌≢◌, ◌≤◌, ◌⊎◌, List, length, IfOk, IfErr, MatchResult};
 ghost use Rattle.std.specs.Str.{IsUtf8};
 ghost use Rattle.cr_syntax.specs.declared.fault.LexFault.{LexFault};
+ghost use Rattle.cr_syntax.specs.declared.token.TheConstants.{MAX_SOURCE_BYTES};
 ghost use Rattle.cr_syntax.specs.declared.fault.LexFault.TheVariants as fault;
 ghost use Rattle.cr_syntax.specs.declared.token.Token.{Token};
 ghost use Rattle.cr_syntax.specs.Lexes.{Lexes};
@@ -23,7 +24,7 @@ fn is_open_string(fault: LexFault) -> bool
 
 /// The fault of a source whose longest front of text this is.
 fn front_fault(alloc: Global, front: &[u8]) -> LexFault
-    requires size { length front.now ≤ 1048576 }
+    requires size { length front.now ≤ MAX_SOURCE_BYTES }
     requires utf8 { IsUtf8 front.now }
     ensures { result ≢ fault.NoMemory → FrontFails front.now result }
 {
@@ -39,7 +40,7 @@ fn front_fault(alloc: Global, front: &[u8]) -> LexFault
 }
 
 fn read(alloc: Global, bytes: &[u8]) -> Result<Vec<Token>, LexFault>
-    requires { length bytes.now ≤ 1048576 }
+    requires { length bytes.now ≤ MAX_SOURCE_BYTES }
     ensures ok { IfOk result (λ tokens. Lexes bytes.now tokens.items) }
     ensures err { IfErr result (λ f. f ≢ fault.NoMemory → lex_fault bytes.now f) }
 {
@@ -53,7 +54,7 @@ fn read(alloc: Global, bytes: &[u8]) -> Result<Vec<Token>, LexFault>
 ///
 /// An `Err` is the source's first fault, with its byte place, or want of memory.
 pub fn tokens(alloc: Global, bytes: &[u8]) -> Result<Vec<Token>, LexFault>
-    requires { length bytes.now ≤ 1048576 }
+    requires { length bytes.now ≤ MAX_SOURCE_BYTES }
     // What is answered is so.
     ensures ok { IfOk result (λ tokens. Lexes bytes.now tokens.items) }
     ensures err { IfErr result (λ f. f ≢ fault.NoMemory → lex_fault bytes.now f) }

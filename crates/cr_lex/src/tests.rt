@@ -4,7 +4,7 @@
 //! it is spaced. A fault is written with its place.
 
 use crate::tokens;
-use cr_syntax::{LexFault, Token, TokenKind};
+use cr_syntax::{LexFault, MAX_SOURCE_BYTES, Token, TokenKind};
 use std::alloc::{AllocError, Global};
 use std::fmt::Write;
 use std::process::Abort;
@@ -67,7 +67,7 @@ fn shown(alloc: Global, answer: Result<Vec<Token>, LexFault>) -> Result<String, 
 
 fn answer_as_wanted(rt: &impl Abort, alloc: Global, rows: &[(&[u8], &str)]) -> Result<(), Fail> {
     for (source, want) in rows {
-        assert!(rt; source.len() <= 1_048_576);
+        assert!(rt; source.len() <= MAX_SOURCE_BYTES);
         let got = shown(alloc, tokens(alloc, source))?;
         assert_eq!(rt; got.as_str(), *want);
     }
@@ -501,14 +501,14 @@ fn bytes_that_are_no_text_second(rt: HostRuntime) -> Result<(), Fail> {
 
 #[test]
 fn long_sources_are_read_without_recursion(rt: HostRuntime) -> Result<(), Fail> {
-    let spaces = vec![in rt.alloc(); b' '; 1_048_576]?;
+    let spaces = vec![in rt.alloc(); b' '; MAX_SOURCE_BYTES]?;
     let got = shown(rt.alloc(), tokens(rt.alloc(), spaces.as_slice()))?;
     assert_eq!(rt; got.as_str(), "End1048576-1048576s");
     let mut nested = Vec::new(rt.alloc());
     for _ in 0..100_000 {
         nested.extend_from_slice(b"\"#{")?;
     }
-    assert!(rt; nested.len() <= 1_048_576);
+    assert!(rt; nested.len() <= MAX_SOURCE_BYTES);
     let got = shown(rt.alloc(), tokens(rt.alloc(), nested.as_slice()))?;
     assert_eq!(rt; got.as_str(), "OpenString 0");
     Ok(())

@@ -25,7 +25,7 @@ fn word_of(alloc: Global, text: &[u8]) -> Result<TokenKind, NoMemory>
     ensures { IfOk result (λ kind. kind ≡ spec.word_of text.now) }
 {
     match keyword(text) {
-        Some(kind) => Ok(kind),
+        Some(look) => Ok(TokenKind::Plain(look)),
         None => Ok(TokenKind::Ident(copied(alloc, text)?)),
     }
 }

@@ -1,3 +1,4 @@
+pub mod Places
 mod Unique
 mod Total
 mod Named

@@ -1,5 +1,5 @@
 -- A source has a list of tokens or a fault.
-use Rattle.std.proofs.Common.{◌≡◌, ℕ, zero, suc, ◌+◌, ◌-◌, ◌<◌, ◌≤◌, Bool, true, false, cond, eqb, List, [], ◌∷◌, length, take, drop, Option, Some, None, ◌⊎◌, inl, inr, refl, sym, ap, subst, ◌∙◌, arith, length-drop}
+use Rattle.std.proofs.Common.{◌≡◌, ℕ, zero, suc, ◌+◌, ◌<◌, ◌≤◌, Bool, true, false, List, [], ◌∷◌, length, take, drop, Option, Some, None, ◌⊎◌, inl, inr, refl, sym, subst, ◌∙◌, arith}
 use Rattle.std.proofs.lemmas.Bool.{cases_lt}
 use Rattle.std.proofs.lemmas.Str.{IsUtf8-from_is_utf8, is_utf8-from_IsUtf8}
 use Rattle.std.specs.Str.{is_utf8}
@@ -7,10 +7,12 @@ use Rattle.std.specs.Str.Lossy.{utf8_valid_len}
 use Rattle.cr_syntax.specs.declared.fault.LexFault.{LexFault}
 use Rattle.cr_syntax.specs.declared.fault.LexFault.TheVariants as fault
 use Rattle.cr_syntax.specs.declared.token.Token.{Token}
-use Rattle.cr_syntax.specs.declared.token.TokenKind.TheVariants.{End}
-use Rattle.cr_syntax.specs.Lexes.{Before, start, outermost, behind, is_blank, line_length, gap_length, place_of, is_spaced, form_of, spells, IsToken, IsEnd, LexesFrom, TextLexes, Lexes}
+use Rattle.cr_syntax.specs.declared.token.TokenKind.TheVariants.{Plain}
+use Rattle.cr_syntax.specs.declared.look.TokenLook.TheVariants.{End}
+use Rattle.cr_syntax.specs.Lexes.{Before, start, outermost, behind, place_of, is_spaced, spells, IsToken, IsEnd, LexesFrom, TextLexes, Lexes}
 use Rattle.cr_syntax.specs.Faults.{fault_at, IsStuck, FailsFrom, TextFails, FrontFails, lex_fault}
 use Rattle.cr_syntax.specs.Laws.{AlwaysOne}
+use Rattle.cr_syntax.proofs.Places.{place_of_le, spells_before}
 
 -- the last of the first n numbers above `low` at which there is something, or none of them
 record IsLast {K : Type 0} (f : ℕ → Option K) (low n at : ℕ) (k : K) : Type 0 where
@@ -49,35 +51,6 @@ last_some f low (suc n) = elim (cases_lt low (suc n)) [
   | inl lt ↦ at_last f low n (f (suc n)) lt refl (last_some f low n)
 ]
 
-line_length_le : (bs : List ℕ) → line_length bs ≤ length bs
-line_length_le [] = omega arith
-line_length_le (b ∷ bs) = by_test (eqb b 10) (line_length_le bs)
-  where
-    by_test : (t : Bool) → line_length bs ≤ length bs → cond t 0 (suc (line_length bs)) ≤ suc (length bs)
-    by_test true h = omega arith
-    by_test false h = omega arith
-
-gap_length_le : (bs : List ℕ) → gap_length bs ≤ length bs
-gap_length_le [] = omega arith
-gap_length_le (b ∷ bs) = by_tests (is_blank b) (eqb b 35) (gap_length_le bs) (line_length_le bs)
-  where
-    by_tests : (t u : Bool) → gap_length bs ≤ length bs → line_length bs ≤ length bs → cond t (suc (gap_length bs)) (cond u (suc (line_length bs)) 0) ≤ suc (length bs)
-    by_tests true u h g = omega arith
-    by_tests false true h g = omega arith
-    by_tests false false h g = omega arith
-
-place_of_le : (source : List ℕ) (at : ℕ) → at ≤ length source → place_of source at ≤ length source
-place_of_le source at le = omega (arith, gap_length_le (drop at source), length-drop at source)
-
-form_of_zero : (before : Before) (spaced : Bool) (bs : List ℕ) → form_of before spaced bs 0 ≡ None
-form_of_zero before spaced [] = refl
-form_of_zero before spaced (b ∷ bs) = refl
-
-spells_before : (source : List ℕ) (before : Before) (at past : ℕ) → past ≤ place_of source at → spells source before at past ≡ None
-spells_before source before at past le =
-    let none : past - place_of source at ≡ 0 = omega arith in
-    ap (form_of before (is_spaced source at) (drop (place_of source at) source)) none ∙ form_of_zero before (is_spaced source at) (drop (place_of source at) source)
-
 -- what stands next behind `at`
 data Next (source : List ℕ) (before : Before) (at : ℕ) : Type 0 where
   ends : (t : Token) (is : IsEnd source before at t) → Next source before at
@@ -87,7 +60,7 @@ data Next (source : List ℕ) (before : Before) (at : ℕ) : Type 0 where
 module _ (source : List ℕ) (before : Before) (at : ℕ) where
   at_the_end : place_of source at ≡ length source → (o : Option ℕ) → outermost before.nesting ≡ o → Next source before at
   at_the_end end None closed =
-      ends (record { kind = End; span = record { first = length source; past = length source }; spaced = is_spaced source at })
+      ends (record { kind = Plain End; span = record { first = length source; past = length source }; spaced = is_spaced source at })
       (record { kind = refl; at_end = end; first = refl; past = refl; spaced = refl; closed = closed })
   at_the_end end (Some quote) is =
       stops (fault_at before (place_of source at) (drop (place_of source at) source)) (record {

@@ -149,7 +149,7 @@ pub record IsToken (source : List ℕ) (before : Before) (at : ℕ) (t : Token) 
 
 -- the end of the source, with no text and no insertion open
 pub record IsEnd (source : List ℕ) (before : Before) (at : ℕ) (t : Token) : Type 0 where
-  pub kind : t.kind ≡ k.End
+  pub kind : t.kind ≡ k.Plain l.End
   pub at_end : place_of source at ≡ length source
   pub first : t.span.first ≡ length source
   pub past : t.span.past ≡ length source

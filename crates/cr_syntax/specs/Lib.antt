@@ -3,6 +3,7 @@ pub mod Words
 pub mod Numbers
 pub mod Texts
 pub mod Operators
+pub mod Spellings
 pub mod Lexes
 pub mod Faults
 pub mod Laws

@@ -1,3 +1,8 @@
+ghost use Rattle.std.specs.Prelude.{◌≡◌};
+ghost use Rattle.cr_syntax.specs.declared.fault.LexFault.TheVariants as fault;
+
+use cr_base::NoMemory;
+
 /// Why a source has no tokens. Each fault but the last has its byte place.
 #[derive(Clone, Copy, Debug, PartialEq, Eq)]
 pub enum LexFault {
@@ -13,4 +18,12 @@ pub enum LexFault {
     BadNumber(u32),
     /// Want of memory.
     NoMemory,
+}
+
+impl From<NoMemory> for LexFault {
+    ghost from_gives = { λ _ e. e ≡ fault.NoMemory };
+
+    fn from(_error: NoMemory) -> LexFault {
+        LexFault::NoMemory
+    }
 }

@@ -19,21 +19,25 @@ pub enum TokenLook {
     Do,
     Else,
     Elsif,
+    /// `end`, since `End` is a token.
     KeywordEnd,
     False,
     Getter,
     If,
     In,
     Include,
+    /// `is_a?`
     IsA,
     Module,
     Next,
     Nil,
+    /// `nil?`
     IsNil,
     Of,
     Property,
     Return,
     Select,
+    /// `self`, a word of Rust.
     KeywordSelf,
     Spawn,
     Super,

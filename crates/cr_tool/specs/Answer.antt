@@ -7,6 +7,7 @@ use Rattle.cr_schedule.specs.Entry.{spent}
 use Rattle.cr_tool.specs.declared.ending.Ending.{Ending}
 use Rattle.cr_tool.specs.declared.ending.Ending.TheVariants as ending
 use Rattle.cr_tool.specs.declared.ending.Code.TheVariants.{NotBuilt}
+use Rattle.cr_syntax.specs.declared.token.TheConstants.{MAX_SOURCE_BYTES}
 use Rattle.cr_tool.specs.declared.ending.Which.TheVariants as which
 use Rattle.cr_tool.specs.declared.report.Report.{Report}
 use Rattle.cr_tool.specs.declared.sums.Line.{Line}
@@ -17,7 +18,7 @@ use Rattle.cr_tool.specs.Endings.{status_of, closing}
 
 -- the most bytes of a source
 abbrev pub source_limit : ℕ
-source_limit = 1048576
+source_limit = MAX_SOURCE_BYTES
 
 -- A source before and after a call: what was left, where it told that; whether its last read met the end; its faults.
 pub record Reading : Type 0 where

@@ -8,16 +8,14 @@ use crate::closing::refusal_line;
 use crate::ending::{Code, Ending, Refusal, Which};
 use crate::sums::{Line, LinesFault, read_lines};
 use cr_io::{ReadAll, Source, read_all};
+use cr_syntax::MAX_SOURCE_BYTES;
 use std::alloc::Global;
-
-/// The most bytes that a source has.
-const SOURCE_LIMIT: usize = 1_048_576;
 
 /// The bytes of a source.
 fn read_source<S: Source>(alloc: Global, source: &mut S) -> Result<Vec<u8>, Closed>
     ensures { IsRead (reading S.left S.met_end S.faults source.old source.new) result }
 {
-    match read_all(alloc, source, SOURCE_LIMIT) {
+    match read_all(alloc, source, MAX_SOURCE_BYTES) {
         Ok(bytes) => Ok(bytes),
         Err(ReadAll::Fault) => Err(Closed::new(alloc, Ending::ReadFault(Which::Source))),
         Err(ReadAll::TooLong) => Err(Closed::new(alloc, Ending::SourceTooLong)),
