@@ -8,15 +8,20 @@ use Rattle.cr_syntax.specs.declared.token.Token.{Token}
 use Rattle.cr_syntax.specs.declared.token.TokenKind.TheVariants as k
 use Rattle.cr_grammar.specs.declared.tree.Tree.{Tree}
 use Rattle.cr_grammar.specs.declared.within.Within.{Within}
-use Rattle.cr_grammar.specs.Forms.{Form, where_true, maybe, word, Word, instance_variable, tight}
-use Rattle.cr_grammar.specs.Wanted.{Wanted, in_object}
+use Rattle.cr_grammar.specs.declared.word.Word.{Word}
+use Rattle.cr_grammar.specs.Forms.{Form, where_true, maybe, word, instance_variable, tight}
+use Rattle.cr_grammar.specs.declared.wanted.Wanted.{Wanted}
+use Rattle.cr_grammar.specs.Wanted.{in_object}
 use Rattle.cr_grammar.specs.Laws.{first_is}
 use Rattle.cr_grammar.specs.Expressions as ex
-use Rattle.cr_descent.specs.Operand.{Operand, Field, Element, Variable, Yielding, Above, Passing, Whole, whole, named, linked, indexed, yielded, above}
+use Rattle.cr_readers.specs.declared.operand.Operand.{Operand}
+use Rattle.cr_readers.specs.declared.operand.Operand.TheVariants.{Field, Element, Variable, Yielding, Above, Passing, Whole}
+use Rattle.cr_readers.specs.Operand.{whole, named, linked, indexed, yielded, above}
 use Rattle.cr_exact.proofs.Forms.{made_in, all_read}
 use Rattle.cr_exact.proofs.Heads.{led_at, led_kind}
 use Rattle.cr_descent.proofs.Operands as operands
 use Rattle.cr_descent.proofs.PostfixForms as postfix
+use Rattle.cr_descent.proofs.OperandForms as operand
 use Rattle.cr_descent.proofs.StatementForms as forms
 
 -- ---- which operands are made how
@@ -193,7 +198,7 @@ module _ (S : Wanted → Form Tree) (within : Within) where
   -- ---- `[a]` behind a postfix
 
   element_head : (look : TokenLook) (w : List Token) (at : ℕ) (x : Tree) (xs : List Tree) → By look w (Element at x xs) → ⊥
-  element_head look w at x xs c = elim (postfix.head_by S within true look w (Element at x xs) c) [
+  element_head look w at x xs c = elim (operand.head_by S within true look w (Element at x xs) c) [
     | inl r ↦ named_element r.2 r.5.2 r.5.5.2 r.5.5.5.1
     | inr other ↦ absurd cc
   ] where
@@ -257,10 +262,10 @@ module _ (S : Wanted → Form Tree) (within : Within) where
   apart = record {
     tree_of = postfix.postfix_tree S within true;
     operand_of = postfix.tree_postfix S within true;
-    name_out = postfix.name_alone S within true;
-    name_back = postfix.alone_name S within true;
-    field_out = postfix.field_last S within true;
-    field_back = postfix.last_field S within true;
+    name_out = operand.name_alone S within true;
+    name_back = operand.alone_name S within true;
+    field_out = operand.field_last S within true;
+    field_back = operand.last_field S within true;
     element_out = element_out;
     element_back = element_back;
     variable_out = variable_out;

@@ -5,19 +5,21 @@ use Rattle.cr_syntax.specs.declared.token.Token.{Token}
 use Rattle.cr_grammar.specs.declared.tree.Tree.{Tree}
 use Rattle.cr_grammar.specs.declared.within.Within.{Within}
 use Rattle.cr_grammar.specs.Forms.{Form, nothing, ◌<|>◌, maybe, many}
-use Rattle.cr_grammar.specs.Wanted.{Wanted, Written, When, Unary, Or, Simple, Stmt}
+use Rattle.cr_grammar.specs.declared.wanted.Wanted.{Wanted}
+use Rattle.cr_grammar.specs.declared.wanted.Wanted.TheVariants.{Written, When, Unary, Or, Simple, Stmt}
 use Rattle.cr_grammar.specs.Laws.{first_is, begins_type, begins_or, begins_stmt}
 use Rattle.cr_grammar.specs.Expressions as ex
-use Rattle.cr_exact.specs.Reader.{Reader, Test, ◌>>=◌, pure, either, never, seen, tight_seen}
+use Rattle.cr_readers.specs.Reader.{Reader, Test, ◌>>=◌, pure, either, never, seen, tight_seen}
 use Rattle.cr_exact.specs.Exact.{Effort, Exact, Any}
-use Rattle.cr_descent.specs.Goes as g
-use Rattle.cr_descent.specs.Operand.{whole}
-use Rattle.cr_descent.specs.Types as types
-use Rattle.cr_descent.specs.Bodies as bodies
-use Rattle.cr_descent.specs.Primaries as primaries
-use Rattle.cr_descent.specs.Compounds as compounds
-use Rattle.cr_descent.specs.Links as links
-use Rattle.cr_descent.specs.Operations as operations
+use Rattle.cr_exact.proofs.Moves.{Moves}
+use Rattle.cr_readers.specs.Goes as g
+use Rattle.cr_readers.specs.Operand.{whole}
+use Rattle.cr_readers.specs.Types as types
+use Rattle.cr_readers.specs.Bodies as bodies
+use Rattle.cr_readers.specs.Primaries as primaries
+use Rattle.cr_readers.specs.Compounds as compounds
+use Rattle.cr_readers.specs.Links as links
+use Rattle.cr_readers.specs.Operations as operations
 use Rattle.cr_descent.proofs.Operands as operands
 
 module _ (effort : Effort) (rec : Wanted → Reader Tree) (S T : Wanted → Form Tree) where
@@ -31,6 +33,9 @@ module _ (effort : Effort) (rec : Wanted → Reader Tree) (S T : Wanted → Form
     pub or_begins : (within : Within) (free : Bool) (w : List Token) (x : Tree) → T (Or within free) w x → first_is (begins_or within) w ≡ true
     pub simple_begins : (within : Within) (w : List Token) (x : Tree) → T (Simple within) w x → first_is (begins_stmt within) w ≡ true
     pub stmt_begins : (within : Within) (w : List Token) (x : Tree) → T (Stmt within) w x → first_is (begins_stmt within) w ≡ true
+    pub when_moves : (within : Within) (free : Bool) → Moves (seen l.When) (rec (When within free))
+    pub or_moves : (within : Within) (free : Bool) → Moves (λ found _. begins_or within found) (rec (Or within free))
+    pub stmt_moves : (within : Within) → Moves (g.begins_line within) (rec (Stmt within))
 
   abbrev turns : ℕ
   turns = effort.turns
@@ -59,7 +64,7 @@ module _ (effort : Effort) (rec : Wanted → Reader Tree) (S T : Wanted → Form
 
   abbrev pub MaybeBlock : Type 0
   MaybeBlock = (within : Within) (free : Bool)
-      → Exact effort Any (maybe (ex.block S within free)) (maybe (ex.block T within free)) (bodies.begins_block turns rec free) (bodies.maybe_block turns rec within free)
+      → Exact effort Any (maybe (ex.block S within free)) (maybe (ex.block T within free)) (g.begins_block free) (bodies.maybe_block turns rec within free)
 
   abbrev pub Plain : Type 0
   Plain = (within : Within) (free : Bool) → Exact effort Any (ex.plain S within free) (ex.plain T within free) never (bodies.plain turns rec within free)

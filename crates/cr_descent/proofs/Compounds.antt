@@ -10,34 +10,38 @@ use Rattle.cr_grammar.specs.declared.within.Within.{Within}
 use Rattle.cr_grammar.specs.Forms.{Form, nothing, many}
 use Rattle.cr_grammar.specs.Forms as f
 use Rattle.cr_grammar.specs.Laws.{begins_type}
-use Rattle.cr_grammar.specs.Wanted.{Wanted, Written, When, Simple, in_loop}
+use Rattle.cr_grammar.specs.declared.wanted.Wanted.{Wanted}
+use Rattle.cr_grammar.specs.declared.wanted.Wanted.TheVariants.{Written, When, Simple}
+use Rattle.cr_grammar.specs.Wanted.{in_loop}
 use Rattle.cr_grammar.specs.Expressions as ex
-use Rattle.cr_exact.specs.Reader.{Reader, Test, either, seen, never}
+use Rattle.cr_readers.specs.Reader.{Reader, Test, either, seen, never}
 use Rattle.cr_exact.specs.Exact.{Effort}
-use Rattle.cr_descent.specs.Goes as g
-use Rattle.cr_descent.specs.Bodies as bodies_spec
-use Rattle.cr_descent.specs.Compounds as compounds
+use Rattle.cr_readers.specs.Goes as g
+use Rattle.cr_readers.specs.Bodies as bodies_spec
+use Rattle.cr_readers.specs.Compounds as compounds
 use Rattle.cr_exact.proofs.TokenTests.{Not, at_seen, look_apart, not_seen, not_either}
 use Rattle.cr_exact.proofs.Forms.{spelled_word, spelled_stmts}
 use Rattle.cr_exact.proofs.Heads.{tested}
 use Rattle.cr_exact.proofs.Steps.{Begins, Starts, starts_word, starts_bind, starts_or, starts_nothing, starts_maybe, starts_many, starts_led, Reads, reads_word, reads_separators, reads_listed, reads_pure, reads_part, reads_grow, reads_bind, reads_sure, reads_map, reads_many, reads_some}
+use Rattle.cr_exact.proofs.Steps.{reads_on}
+use Rattle.cr_exact.proofs.Moves.{Moves, moves_bind, moves_word, advances_bind, advances_pure}
 use Rattle.cr_descent.proofs.Claims as claims
 use Rattle.cr_descent.proofs.Bodies as bodies
 
-module _ (effort : Effort) (rec : Wanted → Reader Tree) (S T : Wanted → Form Tree) (given : claims.Given effort rec S T) where
+module _ {effort : Effort} {rec : Wanted → Reader Tree} {S T : Wanted → Form Tree} (given : claims.Given effort rec S T) where
   -- ---- the parts
 
   pub reads_rec : (v : Wanted) → Reads effort (S v) (T v) (g.goes_of v) (rec v)
   reads_rec v = (given.exact v, given.some v)
 
   pub reads_body : (within : Within) → Reads effort (ex.body S within) (ex.body T within) g.goes_body (bodies_spec.body effort.turns rec within)
-  reads_body within = (bodies.exact_body effort rec S T given within, spelled_stmts _)
+  reads_body within = (bodies.exact_body given within, spelled_stmts _)
 
   pub reads_then : Reads effort (ex.then S) (ex.then T) never (bodies_spec.then effort.turns rec)
-  reads_then = (bodies.exact_then effort rec S T given, (let s = spelled_word k.Newline in (s.0, s.1, inl s.2)))
+  reads_then = (bodies.exact_then given, (let s = spelled_word (k.Plain l.Newline) in (s.0, s.1, inl s.2)))
 
   pub reads_otherwise : (within : Within) → Reads effort (ex.otherwise S within) (ex.otherwise T within) (either (seen l.Else) g.goes_body) (bodies_spec.otherwise effort.turns rec within)
-  reads_otherwise within = (bodies.exact_otherwise effort rec S T given within, ([], None, refl))
+  reads_otherwise within = (bodies.exact_otherwise given within, ([], None, refl))
 
   pub begins_then : Begins g.goes_simple (ex.then T)
   begins_then = starts_or (starts_word l.Newline (λ spaced. refl)) (starts_word l.Then (λ spaced. refl))
@@ -76,15 +80,15 @@ module _ (effort : Effort) (rec : Wanted → Reader Tree) (S T : Wanted → Form
     looping kind until =
         reads_sure (reads_word effort kind never) (λ at. reads_grow at
         (reads_bind (reads_part (reads_rec (Simple (in_loop within)))) (λ condition.
-        reads_sure (reads_word effort k.Newline never) (λ _.
+        reads_sure (reads_word effort (k.Plain l.Newline) never) (λ _.
         reads_bind (reads_body (in_loop within)) (λ body.
-        reads_map (λ _. _) (reads_word effort k.KeywordEnd never))
+        reads_map (λ _. _) (reads_word effort (k.Plain l.KeywordEnd) never))
         (λ body. begins_end g.goes_body (λ spaced. refl) _)))
         (λ condition. starts_bind _ (starts_word l.Newline (λ spaced. refl)))))
 
     pub elsif : Reads effort (ex.elsif S within free) (ex.elsif T within free) g.goes_body (compounds.elsif effort.turns rec within free)
     elsif =
-        reads_sure (reads_word effort k.Elsif never) (λ _.
+        reads_sure (reads_word effort (k.Plain l.Elsif) never) (λ _.
         reads_bind (reads_part (reads_rec (Simple within))) (λ condition.
         reads_sure reads_then (λ _.
         reads_map (λ _. _) (reads_body within)))
@@ -108,7 +112,7 @@ module _ (effort : Effort) (rec : Wanted → Reader Tree) (S T : Wanted → Form
         reads_bind (reads_body within) (λ body.
         reads_bind others (λ others.
         reads_bind (reads_otherwise within) (λ otherwise.
-        reads_map (λ _. _) (reads_word effort k.KeywordEnd never))
+        reads_map (λ _. _) (reads_word effort (k.Plain l.KeywordEnd) never))
         (λ otherwise. begins_end (either (seen l.Else) g.goes_body) end_else _))
         (λ others. begins_otherwise (either (seen l.Elsif) g.goes_body) else_elsif _ (λ x. begins_end (either (seen l.Elsif) g.goes_body) end_elsif _)))
         (λ body. begins_others _ (λ others. begins_otherwise g.goes_body (λ spaced. refl) _ (λ x. begins_end g.goes_body (λ spaced. refl) _)))))
@@ -122,11 +126,21 @@ module _ (effort : Effort) (rec : Wanted → Reader Tree) (S T : Wanted → Form
 
     pub in_clause : Reads effort (ex.in_clause S within free) (ex.in_clause T within free) g.goes_body (compounds.in_clause effort.turns rec within free)
     in_clause =
-        reads_sure (reads_word effort k.In never) (λ _.
+        reads_sure (reads_word effort (k.Plain l.In) never) (λ _.
         reads_bind (reads_listed (λ spaced. refl) types_lineless (reads_part (reads_rec (Written false)))) (λ types.
         reads_sure reads_then (λ _.
         reads_map (λ _. _) (reads_body within)))
         (λ types. starts_bind _ (starts_or (starts_word l.Newline line_type) (starts_word l.Then then_type))))
+
+    pub elsif_moves : Moves (seen l.Elsif) (compounds.elsif effort.turns rec within free)
+    elsif_moves =
+        moves_bind (moves_word l.Elsif) (λ _. advances_bind (reads_on (reads_part (reads_rec (Simple within)))) (λ condition.
+        advances_bind (reads_on reads_then) (λ _. advances_bind (reads_on (reads_body within)) (λ body. advances_pure _))))
+
+    pub in_moves : Moves (seen l.In) (compounds.in_clause effort.turns rec within free)
+    in_moves =
+        moves_bind (moves_word l.In) (λ _. advances_bind (reads_on (reads_listed (λ spaced. refl) types_lineless (reads_part (reads_rec (Written false))))) (λ types.
+        advances_bind (reads_on reads_then) (λ _. advances_bind (reads_on (reads_body within)) (λ body. advances_pure _))))
 
     pub when_heads : Starts true (seen l.When) (T (When within free))
     when_heads = record {
@@ -139,36 +153,36 @@ module _ (effort : Effort) (rec : Wanted → Reader Tree) (S T : Wanted → Form
 
   pub exact_conditional : (within : Within) (free : Bool) → claims.Conditional effort rec S T within free
   exact_conditional within free = (
-    (conditional within free k.If false (many (ex.elsif S within free)) (many (ex.elsif T within free))
-        (reads_many l.Elsif (λ spaced. refl) (starts_bind _ (starts_word l.Elsif (at_seen l.Elsif))) (elsif within free))
+    (conditional within free (k.Plain l.If) false (many (ex.elsif S within free)) (many (ex.elsif T within free))
+        (reads_many l.Elsif (λ spaced. refl) (starts_bind _ (starts_word l.Elsif (at_seen l.Elsif))) (elsif within free) (elsif_moves within free))
         (λ D next. starts_many D (starts_bind _ (starts_word l.Elsif (λ spaced. refl))) next)).0,
-    (conditional within free k.Unless true (nothing []) (nothing []) (reads_pure effort [] (either (seen l.Elsif) g.goes_body))
+    (conditional within free (k.Plain l.Unless) true (nothing []) (nothing []) (reads_pure effort [] (either (seen l.Elsif) g.goes_body))
         (λ D next. starts_nothing [] D (next []))).0,
   )
 
   pub exact_looping : (within : Within) (free : Bool) → claims.Looping effort rec S T within free
-  exact_looping within free = ((looping within free k.While false).0, (looping within free k.Until true).0)
+  exact_looping within free = ((looping within free (k.Plain l.While) false).0, (looping within free (k.Plain l.Until) true).0)
 
   pub exact_cases : (within : Within) (free : Bool) → claims.Cases effort rec S T within free
   exact_cases within free =
-      (reads_sure (reads_word effort k.Case never) (λ at. reads_grow at
+      (reads_sure (reads_word effort (k.Plain l.Case) never) (λ at. reads_grow at
       (reads_bind (reads_part (reads_rec (Simple within))) (λ value.
-      reads_sure (reads_word effort k.Newline never) (λ _.
+      reads_sure (reads_word effort (k.Plain l.Newline) never) (λ _.
       reads_bind (reads_separators effort) (λ _.
-      reads_bind (reads_some l.In (λ spaced. refl) (starts_bind _ (starts_word l.In (at_seen l.In))) (in_clause within free)) (λ clauses.
-      reads_map (λ _. _) (reads_word effort k.KeywordEnd never))
+      reads_bind (reads_some l.In (λ spaced. refl) (starts_bind _ (starts_word l.In (at_seen l.In))) (in_clause within free) (in_moves within free)) (λ clauses.
+      reads_map (λ _. _) (reads_word effort (k.Plain l.KeywordEnd) never))
       (λ clauses. begins_end (either (seen l.In) g.goes_body) end_in _))
       (λ _. starts_bind _ (starts_bind _ (starts_bind _ (starts_word l.In (not_seen l.In l.Newline (λ e. cc))))))))
       (λ value. starts_bind _ (starts_word l.Newline (λ spaced. refl)))))).0
 
   pub exact_select : (within : Within) (free : Bool) → claims.Select effort rec S T within free
   exact_select within free =
-      (reads_sure (reads_word effort k.Select never) (λ at. reads_grow at
-      (reads_sure (reads_word effort k.Newline never) (λ _.
+      (reads_sure (reads_word effort (k.Plain l.Select) never) (λ at. reads_grow at
+      (reads_sure (reads_word effort (k.Plain l.Newline) never) (λ _.
       reads_bind (reads_separators effort) (λ _.
-      reads_bind (reads_some l.When (λ spaced. refl) (when_heads within free) (reads_rec (When within free))) (λ clauses.
+      reads_bind (reads_some l.When (λ spaced. refl) (when_heads within free) (reads_rec (When within free)) (given.when_moves within free)) (λ clauses.
       reads_bind (reads_otherwise within) (λ otherwise.
-      reads_map (λ _. _) (reads_word effort k.KeywordEnd never))
+      reads_map (λ _. _) (reads_word effort (k.Plain l.KeywordEnd) never))
       (λ otherwise. begins_end (either (seen l.Else) g.goes_body) end_else _))
       (λ clauses. begins_otherwise within free (either (seen l.When) g.goes_body) else_when _
       (λ x. begins_end (either (seen l.When) g.goes_body) end_when _)))

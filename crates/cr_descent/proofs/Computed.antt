@@ -10,12 +10,12 @@ use Rattle.cr_grammar.specs.declared.operator.Assignment.{Assignment}
 use Rattle.cr_grammar.specs.declared.operator.Assignment.TheVariants as assignment
 use Rattle.cr_grammar.specs.declared.tree.Tree.{Tree, out-Tree, the_lemmas}
 use Rattle.cr_grammar.specs.declared.tree.Tree.TheVariants as tree
-use Rattle.cr_grammar.specs.Wanted.{Program}
+use Rattle.cr_grammar.specs.declared.wanted.Wanted.TheVariants.{Program}
 use Rattle.cr_grammar.specs.Grammar.{Spells}
 use Rattle.cr_grammar.specs.Examples.{name}
-use Rattle.cr_exact.specs.declared.fault.ParseFault.TheVariants.{Unexpected}
-use Rattle.cr_exact.specs.Reader.{State, Outcome, Found, Failed, same_look, next, grow, wrap, part, beside}
-use Rattle.cr_descent.specs.Descent.{read}
+use Rattle.cr_readers.specs.declared.fault.ParseFault.TheVariants.{Unexpected}
+use Rattle.cr_readers.specs.Reader.{State, Outcome, Found, Failed, same_look, next, grow, wrap, part, beside}
+use Rattle.cr_readers.specs.Descent.{read}
 use Rattle.cr_descent.specs.Laws.{IsFirstUnexpected}
 use Rattle.cr_descent.specs.Examples as e
 use Rattle.cr_descent.specs.Examples.{Row}

@@ -1,6 +1,7 @@
 -- Declarations and programs are read exactly.
-use Rattle.std.proofs.Common.{◌≡◌, ℕ, Bool, true, false, not, List, [], ◌∷◌, ◌++◌, inl, inr, refl, sym, ap, subst, ◌∙◌}
-use Rattle.std.specs.Prelude.{Option, Some, None, is_some, codes}
+use Rattle.std.proofs.Common.{◌≡◌, ℕ, Bool, true, false, not, List, [], inl, inr, refl, sym, subst}
+use Rattle.std.proofs.lemmas.Bool.{both_ways, or_parts}
+use Rattle.std.specs.Prelude.{Option, None}
 use Rattle.std.specs.Str.{bytes_eq}
 use Rattle.cr_syntax.specs.declared.look.TokenLook.{TokenLook}
 use Rattle.cr_syntax.specs.declared.look.TokenLook.TheVariants as l
@@ -11,181 +12,42 @@ use Rattle.cr_syntax.specs.Look.{look_of}
 use Rattle.cr_grammar.specs.declared.tree.Tree.{Tree}
 use Rattle.cr_grammar.specs.declared.tree.Tree.TheVariants as tree
 use Rattle.cr_grammar.specs.declared.within.Within.{Within}
-use Rattle.cr_grammar.specs.Forms.{Form, Word, nothing}
+use Rattle.cr_grammar.specs.declared.word.Word.{Word}
+use Rattle.cr_grammar.specs.Forms.{Form, nothing}
 use Rattle.cr_grammar.specs.Forms as f
 use Rattle.cr_grammar.specs.Operators as o
-use Rattle.cr_grammar.specs.Wanted.{Wanted, Written, Stmt, in_method, top}
+use Rattle.cr_grammar.specs.declared.wanted.Wanted.{Wanted}
+use Rattle.cr_grammar.specs.declared.wanted.Wanted.TheVariants.{Written, Stmt}
+use Rattle.cr_grammar.specs.Wanted.{in_method, top}
 use Rattle.cr_grammar.specs.Laws.{begins_stmt}
 use Rattle.cr_grammar.specs.Grammar as gr
-use Rattle.cr_exact.specs.Reader.{Reader, Test, passes, pure, choose, expect, only, either, seen, tight_seen, never, part, beside, ◌>>◌}
-use Rattle.cr_exact.specs.Lists.{optional, listed, parenthesized, stmts}
-use Rattle.cr_exact.specs.Exact.{Effort, Exact, Any, Stops}
-use Rattle.cr_descent.specs.Goes as g
-use Rattle.cr_descent.specs.Words.{ident, constant, instance_variable}
-use Rattle.cr_descent.specs.Declarations as declarations
-use Rattle.cr_exact.proofs.TokenTests.{clash, stops_left, either_left, either_right, At, at_seen, look_apart, not_seen, not_either, never_stops, not_tight_seen, other_look}
-use Rattle.cr_exact.proofs.Sequence.{exact_bind, exact_pure, exact_goes, weaken}
-use Rattle.cr_exact.proofs.Tokens.{Passing, a_token, exact_take, exact_choose, exact_only}
-use Rattle.cr_exact.proofs.Forms.{Spelled, spelled_bind, spelled_word, spelled_nothing, spelled_seps, spelled_parenthesized, spelled_stmts, spelled_held}
+use Rattle.cr_readers.specs.Reader.{Reader, Test, expect, either, seen, tight_seen, never, part, beside, ◌>>◌}
+use Rattle.cr_readers.specs.Lists.{optional, listed, parenthesized, stmts}
+use Rattle.cr_exact.specs.Exact.{Effort, Exact, Any}
+use Rattle.cr_readers.specs.Goes as g
+use Rattle.cr_readers.specs.Words.{ident, instance_variable}
+use Rattle.cr_readers.specs.Declarations as declarations
+use Rattle.cr_exact.proofs.TokenTests.{At, at_seen, look_apart, not_seen, not_either, not_tight_seen, other_look}
+use Rattle.cr_exact.proofs.Forms.{Spelled, spelled_bind, spelled_word, spelled_nothing, spelled_seps, spelled_parenthesized, spelled_stmts}
 use Rattle.cr_exact.proofs.Heads.{led_heads, tested}
 use Rattle.cr_exact.proofs.Nodes.{exact_beside}
-use Rattle.cr_exact.proofs.Lists.{exact_parenthesized, exact_tight, exact_tight_word}
+use Rattle.cr_exact.proofs.Lists.{exact_parenthesized, exact_tight}
 use Rattle.cr_exact.proofs.Closed.{exact_or_none}
 use Rattle.cr_exact.proofs.Lines.{exact_stmts}
-use Rattle.cr_exact.proofs.Steps.{Starts, Begins, Reads, starts_word, starts_holding, starts_bind, starts_or, starts_where, starts_maybe, starts_or_none, starts_tight, starts_passing, starts_led, reads_word, reads_pure, reads_part, reads_grow, reads_bind, reads_sure, reads_map, reads_goes, reads_free, reads_as, reads_choose, reads_or_nothing, reads_optional, reads_listed}
+use Rattle.cr_exact.proofs.Steps.{Starts, Begins, Reads, starts_word, starts_holding, starts_bind, starts_or, starts_where, starts_maybe, starts_or_none, starts_tight, starts_passing, reads_word, reads_pure, reads_part, reads_grow, reads_bind, reads_sure, reads_map, reads_goes, reads_free, reads_as, reads_choose, reads_or_nothing, reads_optional, reads_listed}
 use Rattle.cr_descent.proofs.Claims as claims
-use Rattle.cr_descent.proofs.Words.{exact_ident, exact_constant, exact_instance_variable}
+use Rattle.cr_readers.specs.Reader.{same_look}
+use Rattle.cr_exact.proofs.Lists.{exact_closed}
+use Rattle.cr_exact.proofs.Nodes.{silent_grow}
+use Rattle.cr_exact.proofs.Moves.{Moves, moves_bind, moves_word, moves_tight, moves_part, moves_beside, moves_less, moves_either, advances_bind, advances_choose, advances_next, advances_take, advances_pure}
+use Rattle.cr_exact.proofs.Sequence.{Advances, never_back}
+use Rattle.cr_exact.proofs.Steps.{reads_separators}
+use Rattle.cr_exact.proofs.Steps.{reads_on}
+use Rattle.cr_descent.proofs.Words.{variable_moves}
 use Rattle.cr_descent.proofs.Compounds.{reads_rec, reads_body}
+use Rattle.cr_descent.proofs.MethodNames.{reads_ident, reads_constant, reads_variable, goes_name, name_tried, reads_name_tried}
 
--- ---- names
-
--- a word that must be tight, and a value
-abbrev tight_word : {A : Type 0} → TokenLook → A → Form A
-tight_word a x = f.◌>>=◌ (f.tight (f.word a)) (λ _. nothing x)
-
--- a tight word comes, and a value for it
-exact_tight_value : (effort : Effort) (kind : TokenKind) {A : Type 0} (x : A)
-    → Exact effort (Passing (tight_seen (look_of kind))) (tight_word (look_of kind) x) (tight_word (look_of kind) x) never (expect (look_of kind) >> pure x)
-exact_tight_value effort kind x =
-    exact_bind (λ _. nothing x) (λ _. nothing x) never (λ _. pure x) (exact_tight_word effort kind never) (λ _. exact_pure effort x never)
-    (λ _. ([], x, (refl, refl))) (λ _ b y rest d stop. never_stops (b ++ rest))
-
-starts_tight_word : (a : TokenLook) {A : Type 0} (x : A) → Starts true (tight_seen a) (tight_word a x)
-starts_tight_word a x = starts_bind (λ _. nothing x) (starts_tight a (starts_word a (at_seen a)))
-
--- a word that must be tight
-reads_tight_word : (effort : Effort) (kind : TokenKind) (g : Test) → Reads effort (f.tight (f.word (look_of kind))) (f.tight (f.word (look_of kind))) g (only (tight_seen (look_of kind)) (expect (look_of kind)))
-reads_tight_word effort kind g = (
-  exact_only (tight_seen (look_of kind)) (expect (look_of kind)) (exact_tight_word effort kind g)
-      (starts_tight (look_of kind) (starts_word (look_of kind) (at_seen (look_of kind)))).first
-      (a_token kind ∷ []) 0 (refl, (a_token kind, refl, (refl, refl))),
-  (a_token kind ∷ [], 0, (refl, (a_token kind, refl, (refl, refl)))),
-)
-
-reads_ident : (effort : Effort) (g : Test) → Reads effort f.ident f.ident g ident
-reads_ident effort g = (exact_ident effort g, spelled_held (λ text. k.Ident text))
-
-pub reads_constant : (effort : Effort) (g : Test) → Reads effort f.constant f.constant g constant
-reads_constant effort g = (exact_constant effort g, spelled_held (λ text. k.Constant text))
-
-reads_variable : (effort : Effort) (g : Test) → Reads effort f.instance_variable f.instance_variable g instance_variable
-reads_variable effort g = (exact_instance_variable effort g, spelled_held (λ text. k.InstanceVariable text))
-
--- ---- the name of a method
-
--- a `=` or a `?` that is tight goes on
-abbrev pub goes_name : Test
-goes_name = either (tight_seen l.Equal) (tight_seen l.Question)
-
-abbrev setter : Word → List ℕ
-setter name = name.text ++ 61 ∷ []
-
-abbrev name_rest : Word → Bool → Form (List ℕ)
-name_rest name marked = f.◌<|>◌ (nothing name.text) (f.◌>>=◌ (f.where_true (not marked) (f.tight (f.word l.Equal))) (λ _. nothing (setter name)))
-
-reads_name_rest : (effort : Effort) (name : Word) (marked : Bool) → Reads effort (name_rest name marked) (name_rest name marked) (tight_seen l.Equal) (declarations.name_from name marked)
-reads_name_rest effort name true =
-    reads_as (name_rest name true) (name_rest name true) (λ w x c. inl c) none (reads_pure effort name.text (tight_seen l.Equal)) where
-      none : (w : List Token) (x : List ℕ) → name_rest name true w x → nothing name.text w x
-      none w x (inl c) = c
-      none w x (inr c) = absurd (clash refl c.4.0)
-reads_name_rest effort name false =
-    reads_as (name_rest name false) (name_rest name false) out back
-    (reads_or_nothing (tight_seen l.Equal) name.text (starts_tight_word l.Equal (setter name)) (exact_tight_value effort k.Equal (setter name))) where
-      out : (w : List Token) (x : List ℕ) → (f.◌<|>◌ (tight_word l.Equal (setter name)) (nothing name.text)) w x → name_rest name false w x
-      out w x (inl c) = inr (c.0, c.1, c.2, c.3, (refl, c.4), c.5)
-      out w x (inr c) = inl c
-
-      back : (w : List Token) (x : List ℕ) → name_rest name false w x → (f.◌<|>◌ (tight_word l.Equal (setter name)) (nothing name.text)) w x
-      back w x (inl c) = inr c
-      back w x (inr c) = inl (c.0, c.1, c.2, c.3, c.4.1, c.5)
-
-abbrev plain_name : Form (List ℕ)
-plain_name = f.◌>>=◌ f.ident (λ name. name_rest name (o.is_marked name.text))
-
-reads_plain_name : (effort : Effort) → Reads effort plain_name plain_name (tight_seen l.Equal) declarations.plain_name
-reads_plain_name effort = reads_sure (reads_ident effort never) (λ name. reads_name_rest effort name (o.is_marked name.text))
-
--- what may stand behind the brackets
-abbrev index_rest : Form (List ℕ)
-index_rest = f.◌<|>◌ (nothing o.index_name) (f.◌<|>◌ (f.◌>>◌ (f.tight (f.word l.Equal)) (nothing o.index_set_name))
-    (f.◌>>◌ (f.tight (f.word l.Question)) (nothing o.index_question_name)))
-
--- the same in the order in which it is tried
-abbrev index_tried : Form (List ℕ)
-index_tried = f.◌<|>◌ (tight_word l.Equal o.index_set_name) (f.◌<|>◌ (tight_word l.Question o.index_question_name) (nothing o.index_name))
-
-abbrev question_or_none : Form (List ℕ)
-question_or_none = f.◌<|>◌ (tight_word l.Question o.index_question_name) (nothing o.index_name)
-
-index_out : (w : List Token) (x : List ℕ) → index_tried w x → index_rest w x
-index_out w x (inl c) = inr (inl c)
-index_out w x (inr (inl c)) = inr (inr c)
-index_out w x (inr (inr c)) = inl c
-
-index_back : (w : List Token) (x : List ℕ) → index_rest w x → index_tried w x
-index_back w x (inl c) = inr (inr c)
-index_back w x (inr (inl c)) = inl c
-index_back w x (inr (inr c)) = inr (inl c)
-
-no_equal : (w : List Token) (x : List ℕ) (rest : List Token) → question_or_none w x → Stops goes_name rest → Stops (tight_seen l.Equal) (w ++ rest)
-no_equal w x rest (inl c) stop = (starts_led l.Question false (tight_seen l.Equal) (not_tight_seen l.Question l.Equal (other_look l.Question l.Equal (λ e. cc)))
-    (starts_bind (λ _. nothing o.index_question_name) (starts_passing f.is_tight (starts_word l.Question (at_seen l.Question))))).first w x rest c
-no_equal w x rest (inr c) stop = ap (λ (v : List Token). passes (tight_seen l.Equal) (v ++ rest)) c.0 ∙ stops_left (tight_seen l.Equal) (tight_seen l.Question) rest
-    stop
-
-reads_index_rest : (effort : Effort) → Reads effort index_rest index_rest goes_name
-    (choose (tight_seen l.Equal) (expect l.Equal >> pure o.index_set_name)
-    (choose (tight_seen l.Question) (expect l.Question >> pure o.index_question_name) (pure o.index_name)))
-reads_index_rest effort =
-    reads_as index_rest index_rest index_out index_back (
-      exact_choose effort (tight_seen l.Equal) (tight_word l.Equal o.index_set_name) (tight_word l.Equal o.index_set_name) question_or_none question_or_none
-          goes_name _ _
-          (exact_goes goes_name (λ a spaced stop. refl) (exact_tight_value effort k.Equal o.index_set_name))
-          (weaken _ (exact_goes goes_name (λ a spaced stop. either_right _ _ stop)
-          (reads_or_nothing (tight_seen l.Question) o.index_name (starts_tight_word l.Question o.index_question_name)
-          (exact_tight_value effort k.Question o.index_question_name)).0))
-          (starts_tight_word l.Equal o.index_set_name).first no_equal,
-      ([], o.index_name, inr (inr (refl, refl))),
-    )
-
-abbrev index_names : Form (List ℕ)
-index_names = f.◌>>◌ (f.◌>>◌ (f.word l.OpenBracket) (f.tight (f.word l.CloseBracket))) index_rest
-
-reads_index_names : (effort : Effort) → Reads effort index_names index_names goes_name declarations.index_names
-reads_index_names effort =
-    reads_sure (reads_sure (reads_word effort k.OpenBracket never) (λ _. reads_tight_word effort k.CloseBracket never)) (λ _. reads_index_rest effort)
-
-abbrev operator : Form (List ℕ)
-operator = f.one (λ t x. o.operator_name (look_of t.kind) ≡ Some x)
-
-reads_operator : (effort : Effort) (g : Test) → Reads effort operator operator g declarations.operator
-reads_operator effort g = (
-  exact_take effort (λ t x. o.operator_name (look_of t.kind) ≡ Some x) g (λ t. o.operator_name (look_of t.kind)) (λ t x e. e) (λ t x e. e) (a_token k.Plus)
-      (codes "+") refl,
-  (a_token k.Plus ∷ [], codes "+", (a_token k.Plus, refl, refl)),
-)
-
--- what is no operator does not begin one
-starts_operator : (a : TokenLook) → is_some (o.operator_name a) ≡ false → Starts false (seen a) operator
-starts_operator a not = record {
-  first = λ w x rest c. ap (λ (v : List Token). passes (seen a) (v ++ rest)) c.1
-      ∙ look_apart (λ b. is_some (o.operator_name b)) a not (look_of c.0.kind) c.0.spaced (ap (λ (v : Option (List ℕ)). is_some v) c.2);
-}
-
--- the lines of the name, in the order in which they are tried
-abbrev name_tried : Form (List ℕ)
-name_tried = f.◌<|>◌ plain_name (f.◌<|>◌ index_names operator)
-
-reads_name_tried : (effort : Effort) → Reads effort name_tried name_tried goes_name declarations.method_name
-reads_name_tried effort =
-    reads_choose (seen l.Ident) (starts_bind _ (starts_holding (λ text. k.Ident text) l.Ident (λ text. refl) (at_seen l.Ident)))
-    (starts_or (starts_bind _ (starts_bind _ (starts_word l.OpenBracket (not_seen l.OpenBracket l.Ident (λ e. cc))))) (starts_operator l.Ident refl))
-    (reads_goes goes_name (λ a spaced stop. either_left _ _ stop) (reads_plain_name effort))
-    (reads_choose (seen l.OpenBracket) (starts_bind _ (starts_bind _ (starts_word l.OpenBracket (at_seen l.OpenBracket)))) (starts_operator l.OpenBracket refl)
-    (reads_index_names effort) (reads_operator effort goes_name))
-
-module _ (effort : Effort) (rec : Wanted → Reader Tree) (S T : Wanted → Form Tree) (given : claims.Given effort rec S T) where
+module _ {effort : Effort} {rec : Wanted → Reader Tree} {S T : Wanted → Form Tree} (given : claims.Given effort rec S T) where
   name_out : (w : List Token) (x : List ℕ) → name_tried w x → gr.name S w x
   name_out w x (inl (a, b, name, is, c, inl d)) = inl (a, b, name, is, c, d)
   name_out w x (inl (a, b, name, is, c, inr d)) = inr (inl (a, b, name, is, c, d))
@@ -204,7 +66,7 @@ module _ (effort : Effort) (rec : Wanted → Reader Tree) (S T : Wanted → Form
   -- ---- parameters
 
   reads_restriction : Reads effort (gr.restriction S) (gr.restriction T) g.goes_type (declarations.restriction effort.turns rec)
-  reads_restriction = reads_sure (reads_word effort k.Colon never) (λ _. reads_part (reads_rec effort rec S T given (Written true)))
+  reads_restriction = reads_sure (reads_word effort (k.Plain l.Colon) never) (λ _. reads_part (reads_rec given (Written true)))
 
   -- [ ":" type ] goes on by a `:`, or as a type does
   abbrev pub goes_restricted : Test
@@ -212,6 +74,7 @@ module _ (effort : Effort) (rec : Wanted → Reader Tree) (S T : Wanted → Form
 
   reads_maybe_restriction : Reads effort (f.maybe (gr.restriction S)) (f.maybe (gr.restriction T)) goes_restricted (declarations.maybe_restriction effort.turns rec)
   reads_maybe_restriction = reads_optional (seen l.Colon) (starts_bind _ (starts_word l.Colon (at_seen l.Colon))) reads_restriction
+      (moves_bind (moves_word l.Colon) (λ _. reads_on (reads_part (reads_rec given (Written true)))))
 
   abbrev pub parameter : (Wanted → Form Tree) → (List ℕ → TokenKind) → Bool → Form Tree
   parameter Q kind instance = f.◌>>=◌ (f.holding kind) (λ name. f.◌>>=◌ (f.maybe (gr.restriction Q)) (λ of. nothing (tree.Parameter name.at instance name.text of)))
@@ -224,17 +87,17 @@ module _ (effort : Effort) (rec : Wanted → Reader Tree) (S T : Wanted → Form
   abbrev pub local : (Wanted → Form Tree) → Form Tree
   local Q = parameter Q (λ text. k.Ident text) false
 
-  abbrev pub field : (Wanted → Form Tree) → Form Tree
-  field Q = parameter Q (λ text. k.InstanceVariable text) true
+  abbrev pub variable : (Wanted → Form Tree) → Form Tree
+  variable Q = parameter Q (λ text. k.InstanceVariable text) true
 
   reads_local : Reads effort (local S) (local T) goes_restricted (declarations.parameter effort.turns rec ident false)
   reads_local = reads_parameter (λ text. k.Ident text) ident false (reads_ident effort never)
 
-  reads_field : Reads effort (field S) (field T) goes_restricted (declarations.parameter effort.turns rec instance_variable true)
-  reads_field = reads_parameter (λ text. k.InstanceVariable text) instance_variable true (reads_variable effort never)
+  reads_variable_parameter : Reads effort (variable S) (variable T) goes_restricted (declarations.parameter effort.turns rec instance_variable true)
+  reads_variable_parameter = reads_parameter (λ text. k.InstanceVariable text) instance_variable true (reads_variable effort never)
 
   abbrev pub param : (Wanted → Form Tree) → Bool → Form Tree
-  param Q instance = f.◌<|>◌ (local Q) (f.where_true instance (field Q))
+  param Q instance = f.◌<|>◌ (local Q) (f.where_true instance (variable Q))
 
   pub reads_param : (instance : Bool) → Reads effort (param S instance) (param T instance) goes_restricted (declarations.param effort.turns rec instance)
   reads_param true =
@@ -242,18 +105,18 @@ module _ (effort : Effort) (rec : Wanted → Reader Tree) (S T : Wanted → Form
       (reads_choose (seen l.InstanceVariable)
       (starts_bind _ (starts_holding (λ text. k.InstanceVariable text) l.InstanceVariable (λ text. refl) (at_seen l.InstanceVariable)))
       (starts_bind _ (starts_holding (λ text. k.Ident text) l.Ident (λ text. refl) (not_seen l.Ident l.InstanceVariable (λ e. cc))))
-      reads_field reads_local) where
-        out : (w : List Token) (x : Tree) → (f.◌<|>◌ (field S) (local S)) w x → param S true w x
+      reads_variable_parameter reads_local) where
+        out : (w : List Token) (x : Tree) → (f.◌<|>◌ (variable S) (local S)) w x → param S true w x
         out w x (inl c) = inr (refl, c)
         out w x (inr c) = inl c
 
-        back : (w : List Token) (x : Tree) → param T true w x → (f.◌<|>◌ (field T) (local T)) w x
+        back : (w : List Token) (x : Tree) → param T true w x → (f.◌<|>◌ (variable T) (local T)) w x
         back w x (inl c) = inr c
         back w x (inr c) = inl c.1
   reads_param false = reads_as (param S false) (param T false) (λ w x c. inl c) back reads_local where
     back : (w : List Token) (x : Tree) → param T false w x → local T w x
     back w x (inl c) = c
-    back w x (inr c) = absurd (clash refl c.0)
+    back w x (inr c) = absurd (both_ways _ refl c.0)
 
   pub begins_param : (a : TokenLook) (instance : Bool) → (l.Ident ≡ a → ⊥) → (l.InstanceVariable ≡ a → ⊥) → Begins (seen a) (param T instance)
   begins_param a instance one other =
@@ -262,13 +125,15 @@ module _ (effort : Effort) (rec : Wanted → Reader Tree) (S T : Wanted → Form
       (not_seen l.InstanceVariable a other))))
 
   -- R in parentheses that are tight, or nothing
-  reads_enclosed : {A : Type 0} {R C : Form (List A)} (p : Reader (List A)) → Spelled R
+  reads_enclosed : {A : Type 0} {R C : Form (List A)} (p : Reader (List A)) → Advances p → Spelled R
       → Exact effort Any (f.parenthesized R) (f.parenthesized C) never (parenthesized effort.turns p)
       → Reads effort (f.◌<|>◌ (f.tight (f.parenthesized R)) (nothing [])) (f.◌<|>◌ (f.tight (f.parenthesized C)) (nothing [])) (tight_seen l.OpenParenthesis) (declarations.enclosed effort.turns rec p)
-  reads_enclosed {R = R} {C = C} p some e =
+  reads_enclosed {R = R} {C = C} p on some e =
       let s = spelled_parenthesized some in
       reads_or_nothing (tight_seen l.OpenParenthesis) [] (starts_tight l.OpenParenthesis (starts_bind _ (starts_word l.OpenParenthesis (at_seen l.OpenParenthesis))))
       (exact_tight l.OpenParenthesis (led_heads l.OpenParenthesis _) s.0 s.1 s.2 refl e)
+      (moves_tight l.OpenParenthesis (moves_bind (moves_word l.OpenParenthesis) (λ _. advances_bind (reads_on (reads_separators effort)) (λ _. advances_bind on
+      (λ xs. never_back (exact_closed effort (k.Plain l.CloseParenthesis) xs (λ e. cc)))))))
 
   -- the same and what follows it
   pub starts_enclosed : (h : Test) {A B : Type 0} {C : Form (List A)} (D : List A → Form B) → At false l.OpenParenthesis h → ((xs : List A) → Starts false h (D xs))
@@ -295,15 +160,15 @@ module _ (effort : Effort) (rec : Wanted → Reader Tree) (S T : Wanted → Form
   pub reads_parameters : (within : Within)
       → Reads effort (parameters S within.initialize) (parameters T within.initialize) (tight_seen l.OpenParenthesis) (declarations.parameters effort.turns rec within)
   reads_parameters within =
-      reads_enclosed _ ([], [], inr (refl, refl))
-      (reads_sure (reads_word effort k.OpenParenthesis never) (λ _. (
+      reads_enclosed _ (advances_choose (seen l.CloseParenthesis) (advances_pure []) (reads_on (reads_params within.initialize))) ([], [], inr (refl, refl))
+      (reads_sure (reads_word effort (k.Plain l.OpenParenthesis) never) (λ _. (
         exact_or_none effort (f.listed (param S within.initialize)) (f.listed (param T within.initialize)) goes_listed _ (reads_params within.initialize).0
             (starts_bind _ (begins_param l.Newline within.initialize (λ e. cc) (λ e. cc))).first
-            (listed_not l.Newline (λ e. cc) (λ e. cc) (λ spaced. refl)) k.CloseParenthesis (listed_not l.CloseParenthesis (λ e. cc) (λ e. cc) (λ spaced. refl))
+            (listed_not l.Newline (λ e. cc) (λ e. cc) (λ spaced. refl)) (k.Plain l.CloseParenthesis) (listed_not l.CloseParenthesis (λ e. cc) (λ e. cc) (λ spaced. refl))
             (λ e. cc)
             (starts_bind _ (begins_param l.CloseParenthesis within.initialize (λ e. cc) (λ e. cc))).first,
         spelled_bind spelled_seps (λ _. spelled_bind {R = f.or_none (f.listed (param S within.initialize))} ([], [], inr (refl, refl)) (λ xs.
-            spelled_bind spelled_seps (λ _. spelled_bind (spelled_word k.CloseParenthesis) (λ _. spelled_nothing xs)))),
+            spelled_bind spelled_seps (λ _. spelled_bind (spelled_word (k.Plain l.CloseParenthesis)) (λ _. spelled_nothing xs)))),
       ))).0
 
   -- ---- methods
@@ -319,7 +184,7 @@ module _ (effort : Effort) (rec : Wanted → Reader Tree) (S T : Wanted → Form
   reads_result true = reads_as (result S true) (result T true) (λ w x c. inl c) back (reads_pure effort None goes_restricted) where
     back : (w : List Token) (x : Option Tree) → result T true w x → nothing None w x
     back w x (inl c) = c
-    back w x (inr c) = absurd (clash refl c.0)
+    back w x (inr c) = absurd (both_ways _ refl c.0)
   reads_result false = reads_as (result S false) (result T false) (λ w x c. inr (refl, c)) (result_back T false) reads_maybe_restriction
 
   -- a result type and what follows it
@@ -336,13 +201,13 @@ module _ (effort : Effort) (rec : Wanted → Reader Tree) (S T : Wanted → Form
 
   reads_def : (class : Bool) → Reads effort (gr.def S class) (gr.def T class) never (declarations.def effort.turns rec class)
   reads_def class =
-      reads_sure (reads_word effort k.Def never) (λ at. reads_grow at
+      reads_sure (reads_word effort (k.Plain l.Def) never) (λ at. reads_grow at
       (reads_bind reads_name (λ name.
       reads_bind (reads_parameters (in_method class name)) (λ parameters.
       reads_bind (reads_result (bytes_eq name o.initialize_name)) (λ result.
-      reads_sure (reads_word effort k.Newline never) (λ _.
-      reads_bind (reads_body effort rec S T given (in_method class name)) (λ body.
-      reads_map (λ _. _) (reads_word effort k.KeywordEnd never))
+      reads_sure (reads_word effort (k.Plain l.Newline) never) (λ _.
+      reads_bind (reads_body given (in_method class name)) (λ body.
+      reads_map (λ _. _) (reads_word effort (k.Plain l.KeywordEnd) never))
       (λ body. starts_bind _ (starts_word l.KeywordEnd (λ spaced. refl)))))
       (λ result. starts_bind _ (starts_word l.Newline (not_either _ (seen l.Colon) g.goes_type (not_seen l.Newline l.Colon (λ e. cc)) (λ spaced. refl)))))
       (λ parameters. starts_result (tight_seen l.OpenParenthesis) (bytes_eq name o.initialize_name) _ (not_tight_seen l.Colon l.OpenParenthesis (other_look l.Colon l.OpenParenthesis (λ e. cc)))
@@ -351,13 +216,20 @@ module _ (effort : Effort) (rec : Wanted → Reader Tree) (S T : Wanted → Form
       (λ parameters. starts_result goes_name (bytes_eq name o.initialize_name) _ (name_not l.Colon (λ e. cc) (λ e. cc))
       (λ result. starts_bind _ (starts_word l.Newline (name_not l.Newline (λ e. cc) (λ e. cc))))))))
 
+  def_moves : (class : Bool) → Moves (seen l.Def) (declarations.def effort.turns rec class)
+  def_moves class =
+      moves_bind (moves_word l.Def) (λ at. advances_next (silent_grow at) (advances_bind (reads_on reads_name) (λ name.
+      advances_bind (reads_on (reads_parameters (in_method class name))) (λ parameters.
+      advances_bind (reads_on (reads_result (bytes_eq name o.initialize_name))) (λ result. advances_bind (advances_take _) (λ _.
+      advances_bind (reads_on (reads_body given (in_method class name))) (λ body. advances_bind (advances_take _) (λ _. advances_pure _))))))))
+
   -- ---- members
 
   pub starts_def : {v : Bool} {h : Test} (class : Bool) → At v l.Def h → Starts v h (gr.def T class)
   starts_def class at = starts_bind _ (starts_word l.Def at)
 
   reads_include : Reads effort (gr.include S) (gr.include T) never (declarations.include)
-  reads_include = reads_sure (reads_word effort k.Include never) (λ at. reads_grow at (reads_map (λ name. tree.Include at name.text) (reads_constant effort never)))
+  reads_include = reads_sure (reads_word effort (k.Plain l.Include) never) (λ at. reads_grow at (reads_map (λ name. tree.Include at name.text) (reads_constant effort never)))
 
   pub starts_include : {v : Bool} {h : Test} → At v l.Include h → Starts v h (gr.include T)
   starts_include at = starts_bind _ (starts_word l.Include at)
@@ -400,10 +272,50 @@ module _ (effort : Effort) (rec : Wanted → Reader Tree) (S T : Wanted → Form
       (reads_choose (seen l.InstanceVariable) (starts_declaration (at_seen l.InstanceVariable))
       (starts_or (starts_accessors l.Getter false (not_seen l.Getter l.InstanceVariable (λ e. cc)))
       (starts_accessors l.Property true (not_seen l.Property l.InstanceVariable (λ e. cc))))
-      (reads_goes goes_listed (λ a spaced stop. either_right _ _ (either_right _ _ stop)) reads_declaration)
+      (reads_goes goes_listed (λ a spaced stop. (or_parts _ _ (or_parts _ _ stop).1).1) reads_declaration)
       (reads_choose (seen l.Getter) (starts_accessors l.Getter false (at_seen l.Getter))
       (starts_accessors l.Property true (not_seen l.Property l.Getter (λ e. cc)))
-      (reads_accessors k.Getter false) (reads_accessors k.Property true))))
+      (reads_accessors (k.Plain l.Getter) false) (reads_accessors (k.Plain l.Property) true))))
+
+  include_moves : Moves (seen l.Include) declarations.include
+  include_moves = moves_bind (moves_word l.Include) (λ at. advances_next (silent_grow at) (advances_bind (reads_on (reads_constant effort never)) (λ name. advances_pure _)))
+
+  declaration_moves : Moves (seen l.InstanceVariable) (declarations.declaration effort.turns rec)
+  declaration_moves =
+      moves_bind variable_moves (λ name. advances_next (silent_grow name.at) (advances_bind (reads_on reads_restriction) (λ of. advances_pure _)))
+
+  accessors_moves : (sought : TokenLook) (property : Bool) → Moves (seen sought) (declarations.accessors effort.turns rec sought property)
+  accessors_moves sought property =
+      moves_bind (moves_word sought) (λ at. advances_next (silent_grow at) (advances_bind
+      (reads_on (reads_listed (not_either _ (seen l.Colon) g.goes_type (not_seen l.Comma l.Colon (λ e. cc)) (λ spaced. refl))
+      (starts_bind _ (starts_holding (λ text. k.Ident text) l.Ident (λ text. refl) (not_seen l.Ident l.Newline (λ e. cc)))) (reads_part reads_acc)))
+      (λ found. advances_pure _)))
+
+  abbrev member_tests : Test
+  member_tests = either (seen l.Def) (either (seen l.Include) (either (seen l.InstanceVariable) (either (seen l.Getter) (seen l.Property))))
+
+  member_test : (found : TokenLook) (spaced : Bool) → declarations.begins_member found spaced ≡ true → member_tests found spaced ≡ true
+  unfolding same_look
+  member_test l.Def spaced is = refl
+  member_test l.Include spaced is = refl
+  member_test l.InstanceVariable spaced is = refl
+  member_test l.Getter spaced is = refl
+  member_test l.Property spaced is = refl
+  member_test _ spaced is = absurd cc
+
+  member_moves : Moves declarations.begins_member (declarations.member effort.turns rec)
+  member_moves =
+      moves_less member_test (moves_either (def_moves true) (moves_either include_moves (moves_either declaration_moves
+      (moves_either (accessors_moves l.Getter false) (accessors_moves l.Property true)))))
+
+  module_member_test : (found : TokenLook) (spaced : Bool) → declarations.begins_module_member found spaced ≡ true → either (seen l.Def) (seen l.Include) found spaced ≡ true
+  unfolding same_look
+  module_member_test l.Def spaced is = refl
+  module_member_test l.Include spaced is = refl
+  module_member_test _ spaced is = absurd cc
+
+  module_member_moves : Moves declarations.begins_module_member (declarations.module_member effort.turns rec)
+  module_member_moves = moves_less module_member_test (moves_either (def_moves true) include_moves)
 
   abbrev begins_member : Test
   begins_member = declarations.begins_member
@@ -481,7 +393,7 @@ module _ (effort : Effort) (rec : Wanted → Reader Tree) (S T : Wanted → Form
   pub reads_class_parameters : Reads effort (f.◌<|>◌ (f.tight (f.parenthesized (f.listed (gr.constant_text S)))) (nothing [])) (f.◌<|>◌ (f.tight (f.parenthesized (f.listed (gr.constant_text T)))) (nothing []))
       (tight_seen l.OpenParenthesis) (declarations.enclosed effort.turns rec (listed effort.turns (declarations.constant_name)))
   reads_class_parameters =
-      reads_enclosed _ reads_names.1
+      reads_enclosed _ (reads_on reads_names) reads_names.1
       (exact_parenthesized effort (f.listed (gr.constant_text S)) (f.listed (gr.constant_text T)) (either (seen l.Comma) never) _ reads_names.0
       (starts_bind _ (begins_constant_name l.Newline (λ e. cc))).first reads_names.1.0 reads_names.1.1 reads_names.1.2
       (not_either _ (seen l.Comma) never (not_seen l.Newline l.Comma (λ e. cc)) (λ spaced. refl))
@@ -490,13 +402,15 @@ module _ (effort : Effort) (rec : Wanted → Reader Tree) (S T : Wanted → Form
   pub reads_superclass : Reads effort (f.maybe (f.◌>>◌ (f.word l.Less) (gr.constant_text S))) (f.maybe (f.◌>>◌ (f.word l.Less) (gr.constant_text T))) (either (seen l.Less) never)
       (optional (seen l.Less) (expect l.Less >> declarations.constant_name))
   reads_superclass = reads_optional (seen l.Less) (starts_bind _ (starts_word l.Less (at_seen l.Less)))
-      (reads_sure (reads_word effort k.Less never) (λ _. reads_constant_name never))
+      (reads_sure (reads_word effort (k.Plain l.Less) never) (λ _. reads_constant_name never))
+      (moves_bind (moves_word l.Less) (λ _. reads_on (reads_constant_name never)))
 
   reads_members : Reads effort (f.stmts (gr.member S)) (f.stmts (gr.member T)) g.goes_body (stmts effort.turns begins_member (part (declarations.member effort.turns rec)))
   reads_members = (
     exact_stmts effort (gr.member S) (gr.member T) begins_member goes_listed _ (reads_part reads_member).0 starts_member.first (λ spaced. refl)
         (listed_not l.Newline (λ e. cc) (λ e. cc) (λ spaced. refl))
-        g.goes_body (λ a spaced stop. (closed_line a spaced stop, closed_member a spaced stop, closed_listed a spaced stop)),
+        g.goes_body (λ a spaced stop. (closed_line a spaced stop, closed_member a spaced stop, closed_listed a spaced stop))
+        (moves_part _ member_moves),
     spelled_stmts _,
   )
 
@@ -504,19 +418,20 @@ module _ (effort : Effort) (rec : Wanted → Reader Tree) (S T : Wanted → Form
   reads_module_members = (
     exact_stmts effort (module_member S) (module_member T) begins_module_member never _ (reads_part reads_module_member).0 starts_module_member.first
         (λ spaced. refl) (λ spaced. refl)
-        g.goes_body (λ a spaced stop. (closed_line a spaced stop, closed_module_member a spaced stop, refl)),
+        g.goes_body (λ a spaced stop. (closed_line a spaced stop, closed_module_member a spaced stop, refl))
+        (moves_part _ module_member_moves),
     spelled_stmts _,
   )
 
   reads_class : Reads effort (gr.class S) (gr.class T) never (declarations.class effort.turns rec)
   reads_class =
-      reads_sure (reads_word effort k.Class never) (λ at. reads_grow at
+      reads_sure (reads_word effort (k.Plain l.Class) never) (λ at. reads_grow at
       (reads_sure (reads_constant effort never) (λ name.
       reads_bind reads_class_parameters (λ parameters.
       reads_bind reads_superclass (λ superclass.
-      reads_sure (reads_word effort k.Newline never) (λ _.
+      reads_sure (reads_word effort (k.Plain l.Newline) never) (λ _.
       reads_bind reads_members (λ members.
-      reads_map (λ _. _) (reads_word effort k.KeywordEnd never))
+      reads_map (λ _. _) (reads_word effort (k.Plain l.KeywordEnd) never))
       (λ members. starts_bind _ (starts_word l.KeywordEnd (λ spaced. refl)))))
       (λ superclass. starts_bind _ (starts_word l.Newline (not_either _ (seen l.Less) never (not_seen l.Newline l.Less (λ e. cc)) (λ spaced. refl)))))
       (λ parameters. starts_maybe _ (starts_bind _ (starts_word l.Less (not_tight_seen l.Less l.OpenParenthesis (other_look l.Less l.OpenParenthesis (λ e. cc)))))
@@ -524,11 +439,11 @@ module _ (effort : Effort) (rec : Wanted → Reader Tree) (S T : Wanted → Form
 
   reads_module : Reads effort (gr.module_of S) (gr.module_of T) never (declarations.module_of effort.turns rec)
   reads_module =
-      reads_sure (reads_word effort k.Module never) (λ at. reads_grow at
+      reads_sure (reads_word effort (k.Plain l.Module) never) (λ at. reads_grow at
       (reads_sure (reads_constant effort never) (λ name.
-      reads_sure (reads_word effort k.Newline never) (λ _.
+      reads_sure (reads_word effort (k.Plain l.Newline) never) (λ _.
       reads_bind reads_module_members (λ members.
-      reads_map (λ _. _) (reads_word effort k.KeywordEnd never))
+      reads_map (λ _. _) (reads_word effort (k.Plain l.KeywordEnd) never))
       (λ members. starts_bind _ (starts_word l.KeywordEnd (λ spaced. refl)))))))
 
   -- ---- programs
@@ -555,7 +470,7 @@ module _ (effort : Effort) (rec : Wanted → Reader Tree) (S T : Wanted → Form
       (reads_choose (seen l.Module) (starts_module (at_seen l.Module)) (starts_or (starts_def false (not_seen l.Def l.Module (λ e. cc)))
       (begins_stmt_not l.Module refl))
       (reads_free g.goes_stmt reads_module)
-      (reads_choose (seen l.Def) (starts_def false (at_seen l.Def)) (begins_stmt_not l.Def refl) (reads_free g.goes_stmt (reads_def false)) (reads_rec effort rec S T given (Stmt top))))
+      (reads_choose (seen l.Def) (starts_def false (at_seen l.Def)) (begins_stmt_not l.Def refl) (reads_free g.goes_stmt (reads_def false)) (reads_rec given (Stmt top))))
 
   -- a statement begins an item
   item_of : (a : TokenLook) (spaced : Bool) → begins_stmt top a ≡ true → begins_item a spaced ≡ true
@@ -569,13 +484,36 @@ module _ (effort : Effort) (rec : Wanted → Reader Tree) (S T : Wanted → Form
       starts_or (starts_class (λ spaced. refl)) (starts_or (starts_module (λ spaced. refl)) (starts_or (starts_def false (λ spaced. refl))
       (record { first = λ w x rest c. tested true (begins_stmt top) begins_item item_of w rest (given.stmt_begins top w x c) })))
 
+  class_moves : Moves (seen l.Class) (declarations.class effort.turns rec)
+  class_moves =
+      moves_bind (moves_word l.Class) (λ at. advances_next (silent_grow at) (advances_bind (reads_on (reads_constant effort never)) (λ name.
+      advances_bind (reads_on reads_class_parameters) (λ parameters. advances_bind (reads_on reads_superclass) (λ superclass. advances_bind (advances_take _) (λ _.
+      advances_bind (reads_on reads_members) (λ members. advances_bind (advances_take _) (λ _. advances_pure _))))))))
+
+  module_moves : Moves (seen l.Module) (declarations.module_of effort.turns rec)
+  module_moves =
+      moves_bind (moves_word l.Module) (λ at. advances_next (silent_grow at) (advances_bind (reads_on (reads_constant effort never)) (λ name. advances_bind (advances_take _) (λ _.
+      advances_bind (reads_on reads_module_members) (λ members. advances_bind (advances_take _) (λ _. advances_pure _))))))
+
+  item_test : (found : TokenLook) (spaced : Bool) → declarations.begins_item found spaced ≡ true
+      → either (seen l.Class) (either (seen l.Module) (either (seen l.Def) (g.begins_line top))) found spaced ≡ true
+  unfolding same_look
+  item_test l.Class spaced is = refl
+  item_test l.Module spaced is = refl
+  item_test l.Def spaced is = refl
+  item_test other spaced is = is
+
+  item_moves : Moves declarations.begins_item (declarations.item effort.turns rec)
+  item_moves = moves_less item_test (moves_either class_moves (moves_either module_moves (moves_either (def_moves false) (given.stmt_moves top))))
+
   reads_items : Reads effort (f.stmts (gr.item S)) (f.stmts (gr.item T)) g.goes_body (stmts effort.turns begins_item (beside (declarations.item effort.turns rec)))
   reads_items = (
     exact_stmts effort (gr.item S) (gr.item T) begins_item g.goes_stmt _ (exact_beside _ reads_item.0) starts_item.first (λ spaced. refl) (λ spaced. refl)
-        g.goes_body (λ a spaced stop. (closed_line a spaced stop, closed_item a spaced stop, closed_stmt a spaced stop)),
+        g.goes_body (λ a spaced stop. (closed_line a spaced stop, closed_item a spaced stop, closed_stmt a spaced stop))
+        (moves_beside _ item_moves),
     spelled_stmts _,
   )
 
   pub exact_program : Exact effort Any (gr.program S) (gr.program T) never (declarations.program effort.turns rec)
   exact_program =
-      (reads_bind reads_items (λ items. reads_map (λ _. _) (reads_word effort k.End never)) (λ items. starts_bind _ (starts_word l.End (λ spaced. refl)))).0
+      (reads_bind reads_items (λ items. reads_map (λ _. _) (reads_word effort (k.Plain l.End) never)) (λ items. starts_bind _ (starts_word l.End (λ spaced. refl)))).0

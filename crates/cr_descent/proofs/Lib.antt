@@ -2,9 +2,11 @@ pub mod Operands
 pub mod Words
 pub mod OperationForms
 pub mod PostfixForms
+pub mod OperandForms
 pub mod StatementForms
 pub mod Operated
 pub mod Claims
+pub mod StatementClaims
 pub mod Types
 pub mod Bodies
 pub mod Compounds
@@ -12,13 +14,17 @@ pub mod Classes
 pub mod Literals
 pub mod Primaries
 pub mod Links
+pub mod Clauses
 pub mod Operations
+pub mod Arguments
 pub mod Statements
 pub mod Simple
+pub mod MethodNames
 pub mod Declarations
 pub mod LimitClaims
 pub mod LimitTypes
 pub mod Apart
+pub mod Openings
 pub mod Knot
 pub mod Consequences
 pub mod LimitTable
@@ -35,3 +41,5 @@ pub mod LimitSimple
 pub mod LimitKnot
 pub mod LimitDeclarations
 pub mod Computed
+pub mod Programs
+pub mod Answered

@@ -4,11 +4,12 @@ use Rattle.cr_grammar.specs.declared.tree.Tree.{Tree}
 use Rattle.cr_grammar.specs.declared.within.Within.{Within}
 use Rattle.cr_grammar.specs.Count.{nodes, nesting}
 use Rattle.cr_grammar.specs.Forms.{Form}
-use Rattle.cr_grammar.specs.Wanted.{Wanted, Written, When, Unary, Or, Simple, Stmt}
-use Rattle.cr_exact.specs.Reader.{Reader, Test}
+use Rattle.cr_grammar.specs.declared.wanted.Wanted.{Wanted}
+use Rattle.cr_grammar.specs.declared.wanted.Wanted.TheVariants.{Written, When, Unary, Or, Simple, Stmt}
+use Rattle.cr_readers.specs.Reader.{Reader, Test}
 use Rattle.cr_exact.specs.Exact.{Any}
 use Rattle.cr_exact.specs.Limits.{Whole, Rises}
-use Rattle.cr_descent.specs.Goes.{goes_of}
+use Rattle.cr_readers.specs.Goes.{goes_of}
 
 -- a reader of trees
 abbrev pub Trees : Form Tree → Test → Reader Tree → Type 0

@@ -1,5 +1,6 @@
 -- What is counted in numbers, texts, arrays and hashes.
 use Rattle.std.proofs.Common.{◌≡◌, ℕ, ◌+◌, max, Bool, true, false, List, [], ◌∷◌, ◌++◌, map, Option, Some, None, inl, inr, refl, sym, ap, subst, ◌∙◌, append_assoc, arith}
+use Rattle.std.proofs.lemmas.List.Sums.{sum_by-cons, sum_by_push}
 use Rattle.std.specs.Prelude.{sum}
 use Rattle.std.proofs.lemmas.List.{append-nil}
 use Rattle.std.proofs.lemmas.Simd.{map-map}
@@ -10,35 +11,37 @@ use Rattle.cr_grammar.specs.declared.tree.Tree.{Tree, the_lemmas}
 use Rattle.cr_grammar.specs.declared.tree.Tree.TheVariants as tree
 use Rattle.cr_grammar.specs.declared.within.Within.{Within}
 use Rattle.cr_grammar.specs.Count.{nodes, nesting}
-use Rattle.cr_grammar.specs.Forms.{Form, Word, nothing}
+use Rattle.cr_grammar.specs.declared.word.Word.{Word}
+use Rattle.cr_grammar.specs.Forms.{Form, nothing}
 use Rattle.cr_grammar.specs.Forms as f
-use Rattle.cr_grammar.specs.Wanted.{Wanted, Written, Or}
+use Rattle.cr_grammar.specs.declared.wanted.Wanted.{Wanted}
+use Rattle.cr_grammar.specs.declared.wanted.Wanted.TheVariants.{Written, Or}
 use Rattle.cr_grammar.specs.Laws.{begins_type}
 use Rattle.cr_grammar.specs.Expressions as ex
-use Rattle.cr_exact.specs.Reader.{Reader, Test, seen, same_look, either, never, expect, holder, many, pure, part, ◌>>=◌, ◌>>◌}
-use Rattle.cr_exact.specs.Lists.{optional, unless_closed, separators, listed}
+use Rattle.cr_readers.specs.Reader.{Reader, Test, seen, same_look, either, never, expect, holder, many, pure, part, ◌>>=◌, ◌>>◌}
+use Rattle.cr_readers.specs.Lists.{optional, unless_closed, separators, listed}
 use Rattle.cr_exact.specs.Exact.{Effort, Exact, Any}
 use Rattle.cr_exact.specs.Limits.{Tally, known, Counts, Rises, tall, size_of_all, top_of_all, if_some}
-use Rattle.cr_descent.specs.Goes.{goes_type, goes_or, goes_primary}
-use Rattle.cr_descent.specs.Words as w
-use Rattle.cr_descent.specs.Bodies as bodies
-use Rattle.cr_descent.specs.Primaries as primaries
+use Rattle.cr_readers.specs.Goes.{goes_type, goes_or, goes_primary}
+use Rattle.cr_readers.specs.Words as w
+use Rattle.cr_readers.specs.Bodies as bodies
+use Rattle.cr_readers.specs.Primaries as primaries
 use Rattle.cr_exact.proofs.TokenTests.{Not, seen_apart, Less, look_apart}
 use Rattle.cr_exact.proofs.Sequence.{weaken}
 use Rattle.cr_exact.proofs.Tokens.{exact_word}
 use Rattle.cr_exact.proofs.Forms.{no_seps, seps_append, bind_out}
-use Rattle.cr_exact.proofs.Heads.{NoLine, seps_halts, led, led_at, first_bind, led_bind, led_seen, first_tested, led_first, LedBy}
+use Rattle.cr_exact.proofs.Heads.{NoLine, seps_fails, led, led_at, first_bind, led_bind, led_seen, first_tested, led_first, LedBy}
 use Rattle.cr_exact.proofs.Follows.{Follows, follows_ahead, follows_nothing, follows_never, follows_led, follows_bind, follows_many, follows_or}
 use Rattle.cr_exact.proofs.Nodes.{exact_part}
 use Rattle.cr_exact.proofs.Closed.{empty_or_in}
 use Rattle.cr_exact.proofs.Limits.{counts_bind, counts_bind_quiet, counts_still_then, counts_pure, counts_silent, counts_weaken, counts_map, still_pure, still_take, still_bind, counts_as_spelled}
 use Rattle.cr_exact.proofs.LimitSteps.{counts_grown}
 use Rattle.cr_exact.proofs.LimitChoices.{passing_same}
-use Rattle.cr_exact.proofs.LimitParts.{sum_cons, tall_cons, known_is, rises_part, rises_many, rises_optional, sum_last, tall_last}
+use Rattle.cr_exact.proofs.LimitParts.{tall_cons, known_is, rises_part, rises_many, rises_optional, tall_last}
 use Rattle.cr_exact.proofs.LimitLists.{rises_listed_parts, counts_word, rises_behind, counts_separated, counts_once, counts_one}
 use Rattle.cr_descent.proofs.Words as words
 use Rattle.cr_descent.proofs.Claims as claims
-use Rattle.cr_descent.proofs.Bodies.{exact_inside, or_halts}
+use Rattle.cr_descent.proofs.Bodies.{exact_inside, or_fails}
 use Rattle.cr_descent.proofs.Literals as literals
 use Rattle.cr_descent.proofs.LimitClaims as limits
 use Rattle.cr_descent.proofs.LimitTable.{part_height}
@@ -60,7 +63,7 @@ array_are at elements None =
     omega (arith, a, b)
 array_are at elements (Some x) =
     let a : nodes (tree.Array at elements (Some x)) ≡ 1 + sum (map nodes elements ++ nodes x ∷ []) = search the_lemmas in
-    let b = sum_last (map nodes elements) (nodes x) in
+    let b = sum_by_push (λ n. n) (map nodes elements) (nodes x) in
     omega (arith, a, b)
 
 array_nests : (at : ℕ) (elements : List Tree) (element : Option Tree) → nesting (tree.Array at elements element) ≡ 1 + max (tall (map nesting elements)) (if_some nesting element)
@@ -80,7 +83,7 @@ hash_are at entries None =
     omega (arith, a, b)
 hash_are at entries (Some x) =
     let a : nodes (tree.Hash at entries (Some x)) ≡ 1 + sum (map nodes entries ++ nodes x ∷ []) = search the_lemmas in
-    let b = sum_last (map nodes entries) (nodes x) in
+    let b = sum_by_push (λ n. n) (map nodes entries) (nodes x) in
     omega (arith, a, b)
 
 hash_nests : (at : ℕ) (entries : List Tree) (entry : Option Tree) → nesting (tree.Hash at entries entry) ≡ 1 + max (tall (map nesting entries)) (if_some nesting entry)
@@ -114,13 +117,13 @@ insertions_told : (n at : ℕ) (texts : List (List ℕ)) (value : Tree) (more : 
 insertions_told n at texts value more =
     let values = map (λ (x : Tree × List ℕ). x.0) more in
     let a = node_told n (tree.Insertions at texts (value ∷ values)) (value ∷ values) (insertions_are at texts (value ∷ values)) (insertions_nest at texts (value ∷ values)) in
-    let c = sum_cons (nodes value) (map nodes values) in
+    let c = sum_by-cons (λ n. n) (nodes value) (map nodes values) in
     let d = tall_cons (part_height value) (map part_height values) in
     let e = ap (λ (v : List ℕ). sum v) (map-map nodes (λ (x : Tree × List ℕ). x.0) more) in
     let h = ap (λ (v : List ℕ). tall v) (map-map part_height (λ (x : Tree × List ℕ). x.0) more) in
     a ∙ known_is _ _ _ _ (omega (arith, c, e)) (omega (arith, d, h))
 
-module _ (effort : Effort) (rec : Wanted → Reader Tree) (S T : Wanted → Form Tree) (given : claims.Given effort rec S T) (counts : limits.GivenCounts rec T) (within : Within) (free : Bool) where
+module _ {effort : Effort} {rec : Wanted → Reader Tree} {S T : Wanted → Form Tree} (given : claims.Given effort rec S T) (counts : limits.GivenCounts rec T) (within : Within) (free : Bool) where
   abbrev turns : ℕ
   turns = effort.turns
 
@@ -138,15 +141,15 @@ module _ (effort : Effort) (rec : Wanted → Reader Tree) (S T : Wanted → Form
 
   pub counts_number : limits.Trees (ex.number T within free) never (primaries.number_node turns rec within free)
   counts_number n =
-      counts_as_spelled (told n) (literals.exact_number_node effort rec S T given within free)
+      counts_as_spelled (told n) (literals.exact_number_node given within free)
       (λ w x c. let one = number_one w x c in known_is _ _ _ _ (let a = one.0 in omega (arith, a)) (sym one.1))
       (λ w x c. let one = number_one w x c in known_is _ _ _ _ (let a = one.0 in omega (arith, a)) (sym one.1))
-      (counts_map (ex.number T within free) (literals.number_back effort rec S T given within free)
+      (counts_map (ex.number T within free) (literals.number_back given within free)
       (counts_grown (λ (found : ℕ × Tree). nothing found.1) never (λ (found : ℕ × Tree). found.0) (λ (found : ℕ × Tree). pure found.1) (λ x. known (n + 1) 1)
       (λ t x e. sym e.0) (words.exact_number effort never) (λ found. follows_never (nothing found.1) never) n
       (λ found. counts_pure found.1 never (known (n + 1) 1) (λ x. known (n + 1) 1) refl)))
 
-  pub counts_text : limits.Trees (literals.whole_text effort rec S T given within free) never (primaries.text turns rec within free)
+  pub counts_text : limits.Trees (literals.whole_text given within free) never (primaries.text turns rec within free)
   counts_text =
       counts_one (λ (text : Word). text.at) (λ (text : Word). tree.Text text.at text.text) never nodes nesting (λ t x e. sym e.1) (words.exact_whole_text effort never)
       (λ text. search the_lemmas) (λ text. search the_lemmas)
@@ -170,10 +173,10 @@ module _ (effort : Effort) (rec : Wanted → Reader Tree) (S T : Wanted → Form
       (λ text. follows_never (f.◌>>=◌ (T (Or within free)) (λ value. nothing (part_of text value))) (goes_or free))
 
   abbrev insertions_of : Word → Tree → List (Tree × List ℕ) → Word → Tree
-  insertions_of = literals.insertions_of effort rec S T given within free
+  insertions_of = literals.insertions_of given within free
 
   abbrev last_part : Word → Tree → List (Tree × List ℕ) → Form Tree
-  last_part = literals.last_part effort rec S T given within free
+  last_part = literals.last_part given within free
 
   abbrev parts_behind : Word → Tree → Form Tree
   parts_behind first value = f.◌>>=◌ (f.many (ex.part_behind T within free)) (last_part first value)
@@ -185,19 +188,19 @@ module _ (effort : Effort) (rec : Wanted → Reader Tree) (S T : Wanted → Form
   goes_parts = either (seen l.TextMiddle) (goes_or free)
 
   led_middle : LedBy l.TextMiddle (ex.part_behind T within free)
-  led_middle = literals.led_middle effort rec S T given within free
+  led_middle = literals.led_middle given within free
 
   led_last : (first : Word) (value : Tree) (more : List (Tree × List ℕ)) → LedBy l.TextLast (last_part first value more)
-  led_last = literals.led_last effort rec S T given within free
+  led_last = literals.led_last given within free
 
   pub counts_insertions : limits.Trees (ex.insertions T within free) never (primaries.insertions turns rec within free)
   unfolding same_look
   counts_insertions n =
       counts_grown values_behind never (λ (first : Word). first.at) _ (told n) (λ t x e. sym e.1) (words.exact_first_text effort never) (λ first. follows_never (values_behind first) never) n
-      (λ first. counts_bind (parts_behind first) never _ (told n) (literals.exact_inserted effort rec S T given within free) (rises_inserted (n + 1) 1)
+      (λ first. counts_bind (parts_behind first) never _ (told n) (literals.exact_inserted given within free) (rises_inserted (n + 1) 1)
       (λ value. counts_bind_quiet (last_part first value) never (λ more. holder w.last_text >>= λ last. pure (insertions_of first value more last)) (told n)
       (rises_many effort (seen l.TextMiddle) (goes_or free) (seen_apart l.TextMiddle (goes_or free) (λ spaced. refl)) (ex.part_behind S within free) (ex.part_behind T within free)
-      (primaries.part_behind turns rec within free) (weaken _ (literals.exact_part_behind effort rec S T given within free)) (λ w x rest c. led_seen l.TextMiddle w rest (led_middle w x c))
+      (primaries.part_behind turns rec within free) (weaken _ (literals.exact_part_behind given within free)) (λ w x rest c. led_seen l.TextMiddle w rest (led_middle w x c))
       (λ x. nodes x.0) (λ x. part_height x.0) (λ m h. counts_weaken _ (passing_same (seen l.TextMiddle)) (rises_part_behind m h)) turns (n + 1 + nodes value) (max 1 (part_height value)))
       (λ more. counts_still_then (f.holding (λ text. k.TextLast text)) (λ last. nothing (insertions_of first value more last)) never (λ last. pure (insertions_of first value more last)) _ (told n)
       (still_take _) (λ last. counts_pure (insertions_of first value more last) never _ (told n) (insertions_told n first.at _ value more))
@@ -228,10 +231,10 @@ module _ (effort : Effort) (rec : Wanted → Reader Tree) (S T : Wanted → Form
       → Rises (if_some nodes) (if_some part_height) Any (f.maybe (f.◌>>◌ (f.word l.Of) C)) goes_of (optional (seen l.Of) (expect l.Of >> p))
   rises_of C p rp =
       rises_optional (f.◌>>◌ (f.word l.Of) C) goes_type (expect l.Of >> p) (seen l.Of) nodes part_height (λ w x rest c. led_seen l.Of w rest (led_at l.Of w c.0 c.1 c.2 c.3 c.4))
-      (λ n h. counts_weaken _ (passing_same (seen l.Of)) (rises_behind effort k.Of C goes_type p nodes part_height rp n h))
+      (λ n h. counts_weaken _ (passing_same (seen l.Of)) (rises_behind effort (k.Plain l.Of) C goes_type p nodes part_height rp n h))
 
   of_less : Less goes_of goes
-  of_less = literals.of_less effort rec S T given within free
+  of_less = literals.of_less given within free
 
   -- the node with its parts, and what stands behind `of`
   counts_of : (n : ℕ) (parts : List Tree) (C : Form Tree) (p : Reader Tree) (make : Option Tree → Tree) → limits.Parts C goes_type p
@@ -275,7 +278,7 @@ module _ (effort : Effort) (rec : Wanted → Reader Tree) (S T : Wanted → Form
 
   counts_array_end : (n at : ℕ) (elements : List Tree) → Counts Any (array_end at elements) goes (parted n elements) (told n) (expect l.CloseBracket >> read_elements at elements)
   counts_array_end n at elements =
-      counts_word effort k.CloseBracket (λ _. elements_behind at elements) goes (λ _. read_elements at elements)
+      counts_word effort (k.Plain l.CloseBracket) (λ _. elements_behind at elements) goes (λ _. read_elements at elements)
       (λ _. counts_of n elements (T (Written true)) (part (rec (Written true))) (λ element. tree.Array at elements element) (rises_part nodes nesting (counts.written true)) (array_are at elements) (array_nests at elements))
 
   counts_array_tail : (n at : ℕ) (elements : List Tree) → Counts Any (array_tail at elements) goes (parted n elements) (told n) (separators turns >> (expect l.CloseBracket >> read_elements at elements))
@@ -290,28 +293,28 @@ module _ (effort : Effort) (rec : Wanted → Reader Tree) (S T : Wanted → Form
       follows_or (seen l.Newline) goes (array_end at []) (f.◌>>=◌ (ex.inside T within free) (array_tail at))
       (follows_led l.CloseBracket (seen l.Newline) goes (array_end at []) (λ spaced. refl) (led l.CloseBracket _))
       (follows_ahead (seen l.Newline) goes (f.◌>>=◌ (ex.inside T within free) (array_tail at))
-      (first_bind false (seen l.Newline) (ex.inside T within free) (array_tail at) (first_bind false (seen l.Newline) (T (Or within true)) _ (or_halts effort rec S T given within true l.Newline refl))))
+      (first_bind false (seen l.Newline) (ex.inside T within free) (array_tail at) (first_bind false (seen l.Newline) (T (Or within true)) _ (or_fails given within true l.Newline refl))))
 
   tail_follows : (at : ℕ) (elements : List Tree) → Follows goes_inside (array_tail at elements) goes
   unfolding same_look
   tail_follows at elements w x rest c stop =
-      seps_halts goes_inside (λ spaced. refl) (λ _. array_end at elements) (λ _ v y more d. led_first false l.CloseBracket goes_inside (λ spaced. refl) v more (led l.CloseBracket (λ _. elements_behind at elements) v y d)) w x rest c
+      seps_fails goes_inside (λ spaced. refl) (λ _. array_end at elements) (λ _ v y more d. led_first false l.CloseBracket goes_inside (λ spaced. refl) v more (led l.CloseBracket (λ _. elements_behind at elements) v y d)) w x rest c
 
   counts_array_once : (n at : ℕ) → Counts Any (array_once at) goes (known (n + 1) 1) (told n)
       (unless_closed l.CloseBracket (bodies.inside turns rec within) >>= λ elements. separators turns >> (expect l.CloseBracket >> read_elements at elements))
   counts_array_once n at =
       counts_once l.CloseBracket (ex.inside S within free) (ex.inside T within free) goes_inside (bodies.inside turns rec within) (array_end at []) (array_tail at) goes _
-      (known (n + 1) 1) (parted n) (told n) (exact_inside effort rec S T given within free) (counts_inside effort rec S T given counts within free (n + 1) 1)
+      (known (n + 1) 1) (parted n) (told n) (exact_inside given within free) (counts_inside given counts within free (n + 1) 1)
       (counts_array_tail n at)
       (counts_map (array_end at []) (λ w x c. ([], w, tt, refl, no_seps, c))
       (subst (λ (t : Tally). Counts Any (array_tail at []) goes t (told n) (separators turns >> (expect l.CloseBracket >> read_elements at []))) (parted_none n) (counts_array_tail n at [])))
       (led l.CloseBracket _)
-      (first_bind false (seen l.CloseBracket) (T (Or within true)) _ (or_halts effort rec S T given within true l.CloseBracket refl))
+      (first_bind false (seen l.CloseBracket) (T (Or within true)) _ (or_fails given within true l.CloseBracket refl))
       (tail_follows at)
 
   pub counts_array : limits.Trees (ex.array T within free) goes (primaries.array turns rec within free)
   counts_array n =
-      counts_grown array_behind goes (λ at. at) _ (told n) (λ t x e. sym e.1) (exact_word effort k.OpenBracket never) (λ at. follows_never (array_behind at) goes) n
+      counts_grown array_behind goes (λ at. at) _ (told n) (λ t x e. sym e.1) (exact_word effort (k.Plain l.OpenBracket) never) (λ at. follows_never (array_behind at) goes) n
       (λ at. counts_map (array_behind at) (array_back at) (counts_separated effort (array_once at) goes _ (known (n + 1) 1) (told n) (array_follows at) (counts_array_once n at)))
 
   -- ---- hashes
@@ -337,7 +340,7 @@ module _ (effort : Effort) (rec : Wanted → Reader Tree) (S T : Wanted → Form
         (λ key.
         let from = known (n + nodes key) (max h (part_height key)) in
         counts_map (arrow_behind key) (bind_out (f.word l.Arrow) (λ _. f.seps) (λ _. value_behind key))
-        (counts_word effort k.Arrow (λ _. f.◌>>◌ f.seps (value_behind key)) g _
+        (counts_word effort (k.Plain l.Arrow) (λ _. f.◌>>◌ f.seps (value_behind key)) g _
         (λ _. counts_separated effort (value_behind key) g _ from to (follows_ahead (seen l.Newline) g (value_behind key) (first_bind false (seen l.Newline) C _ ahead)) (counts_value n h key))))
         (λ key. follows_led l.Arrow g g (arrow_behind key) stops (led_bind l.Arrow (ex.arrow T within free) (λ _. value_behind key) (led l.Arrow (λ _. f.seps))))
 
@@ -353,13 +356,13 @@ module _ (effort : Effort) (rec : Wanted → Reader Tree) (S T : Wanted → Form
   rises_pairs : Rises (size_of_all nodes) (top_of_all part_height) Any (pairs_of T) goes_pairs read_pairs
   unfolding same_look
   rises_pairs =
-      let some = literals.pair_some effort rec S T given within free (S (Or within free)) (given.some (Or within free)) in
+      let some = literals.pair_some given within free (S (Or within free)) (given.some (Or within free)) in
       rises_listed_parts effort (ex.pair S within free (S (Or within free))) (ex.pair T within free (T (Or within free))) (goes_or free) (primaries.pair turns rec within free (part (rec (Or within free))))
-      (literals.exact_pair effort rec S T given within free (S (Or within free)) (T (Or within free)) (goes_or free) (part (rec (Or within free)))
-      (literals.exact_inserted effort rec S T given within free) (or_halts effort rec S T given within free l.Newline refl) (given.some (Or within free)) (λ spaced. refl))
-      (first_bind false (seen l.Newline) (T (Or within free)) _ (or_halts effort rec S T given within free l.Newline refl)) some.0 some.1 some.2
+      (literals.exact_pair given within free (S (Or within free)) (T (Or within free)) (goes_or free) (part (rec (Or within free)))
+      (literals.exact_inserted given within free) (or_fails given within free l.Newline refl) (given.some (Or within free)) (λ spaced. refl))
+      (first_bind false (seen l.Newline) (T (Or within free)) _ (or_fails given within free l.Newline refl)) some.0 some.1 some.2
       (seen_apart l.Comma (goes_or free) (λ spaced. refl)) nodes part_height
-      (rises_pair (S (Or within free)) (T (Or within free)) (goes_or free) (part (rec (Or within free))) (literals.exact_inserted effort rec S T given within free) (or_halts effort rec S T given within free l.Newline refl)
+      (rises_pair (S (Or within free)) (T (Or within free)) (goes_or free) (part (rec (Or within free))) (literals.exact_inserted given within free) (or_fails given within free l.Newline refl)
       rises_inserted (λ spaced. refl))
 
   rises_type_pair : limits.Parts (ex.pair T within free (T (Written true))) goes_type (primaries.pair turns rec within free (part (rec (Written true))))
@@ -376,7 +379,7 @@ module _ (effort : Effort) (rec : Wanted → Reader Tree) (S T : Wanted → Form
 
   counts_hash_end : (n at : ℕ) (entries : List Tree) → Counts Any (hash_end at entries) goes (parted n entries) (told n) (read_hash_end at entries)
   counts_hash_end n at entries =
-      counts_word effort k.CloseBrace _ goes _
+      counts_word effort (k.Plain l.CloseBrace) _ goes _
       (λ _. counts_of n entries (ex.pair T within free (T (Written true))) _ (λ entry. tree.Hash at entries entry) rises_type_pair (hash_are at entries) (hash_nests at entries))
 
   counts_entries : (n at : ℕ) → Counts Any (f.◌>>=◌ (f.or_none (pairs_of T)) (hash_end at)) goes (known (n + 1) 1) (told n) (unless_closed l.CloseBrace read_pairs >>= read_hash_end at)
@@ -384,15 +387,15 @@ module _ (effort : Effort) (rec : Wanted → Reader Tree) (S T : Wanted → Form
   counts_entries n at =
       counts_map (f.◌>>=◌ (f.or_none (pairs_of T)) (hash_end at)) (empty_or_in (pairs_of T) (hash_end at))
       (counts_once l.CloseBrace (pairs_of S) (pairs_of T) goes_pairs read_pairs (hash_end at []) (hash_end at) goes (read_hash_end at) (known (n + 1) 1) (parted n) (told n)
-      (literals.exact_pairs effort rec S T given within free) (rises_pairs (n + 1) 1) (counts_hash_end n at)
+      (literals.exact_pairs given within free) (rises_pairs (n + 1) 1) (counts_hash_end n at)
       (subst (λ (t : Tally). Counts Any (hash_end at []) goes t (told n) (read_hash_end at [])) (parted_none n) (counts_hash_end n at []))
       (led l.CloseBrace _)
-      (first_bind false (seen l.CloseBrace) (ex.pair T within free (T (Or within free))) _ (first_bind false (seen l.CloseBrace) (T (Or within free)) _ (or_halts effort rec S T given within free l.CloseBrace refl)))
+      (first_bind false (seen l.CloseBrace) (ex.pair T within free (T (Or within free))) _ (first_bind false (seen l.CloseBrace) (T (Or within free)) _ (or_fails given within free l.CloseBrace refl)))
       (λ entries. follows_led l.CloseBrace goes_pairs goes (hash_end at entries) (λ spaced. refl) (led l.CloseBrace _)))
 
   pub counts_hash : limits.Trees (ex.hash T within free) goes (primaries.hash turns rec within free)
   counts_hash n =
-      counts_grown hash_behind goes (λ at. at) _ (told n) (λ t x e. sym e.1) (exact_word effort k.OpenBrace never) (λ at. follows_never (hash_behind at) goes) n
-      (λ at. counts_separated effort (f.◌>>=◌ (f.or_none (pairs_of T)) (hash_end at)) goes _ (known (n + 1) 1) (told n) (literals.entries_follow effort rec S T given within free at) (counts_entries n at)) where
+      counts_grown hash_behind goes (λ at. at) _ (told n) (λ t x e. sym e.1) (exact_word effort (k.Plain l.OpenBrace) never) (λ at. follows_never (hash_behind at) goes) n
+      (λ at. counts_separated effort (f.◌>>=◌ (f.or_none (pairs_of T)) (hash_end at)) goes _ (known (n + 1) 1) (told n) (literals.entries_follow given within free at) (counts_entries n at)) where
         hash_behind : ℕ → Form Tree
         hash_behind at = f.◌>>◌ f.seps (f.◌>>=◌ (f.or_none (pairs_of T)) (hash_end at))

@@ -1,12 +1,13 @@
 -- What is counted of a node is counted of its parts: of a list of them, and of one that may be there.
 use Rattle.std.proofs.Common.{◌≡◌, ℕ, ◌+◌, ◌<◌, max, List, [], ◌∷◌, map, Option, Some, None, refl, sym, ap, ◌∙◌, arith, ◌++◌}
+use Rattle.std.proofs.lemmas.List.Sums.{sum_by-cons}
 use Rattle.std.specs.Prelude.{sum}
 use Rattle.std.proofs.lemmas.Simd.{map-map}
 use Rattle.cr_grammar.specs.declared.tree.Tree.{Tree, the_lemmas}
 use Rattle.cr_grammar.specs.declared.tree.Tree.TheVariants as tree
 use Rattle.cr_grammar.specs.Count.{nodes, nesting}
 use Rattle.cr_exact.specs.Limits.{Tally, known, tall, size_of_all, top_of_all, if_some}
-use Rattle.cr_exact.proofs.LimitParts.{sum_cons, tall_cons, tall_above, known_is}
+use Rattle.cr_exact.proofs.LimitParts.{tall_cons, tall_above, known_is}
 use Rattle.cr_descent.proofs.LimitTable.{part_height}
 
 -- what is counted with a tree, on top of so many nodes
@@ -29,7 +30,7 @@ held f (Some x) = f x ∷ []
 
 pub held_sum : (x : Option Tree) → sum (held nodes x) ≡ if_some nodes x
 held_sum None = refl
-held_sum (Some x) = let a = sum_cons (nodes x) [] in omega (arith, a)
+held_sum (Some x) = let a = sum_by-cons (λ n. n) (nodes x) [] in omega (arith, a)
 
 pub held_tall : (x : Option Tree) → tall (held nesting x) ≡ if_some nesting x
 held_tall None = refl

@@ -18,15 +18,17 @@ use Rattle.cr_grammar.specs.Forms.{Form, nothing, ◌<|>◌, with_last}
 use Rattle.cr_grammar.specs.Forms as f
 use Rattle.cr_grammar.specs.Laws.{begins_or}
 use Rattle.cr_grammar.specs.Operators as o
-use Rattle.cr_grammar.specs.Wanted.{Wanted, Unary}
+use Rattle.cr_grammar.specs.declared.wanted.Wanted.{Wanted}
+use Rattle.cr_grammar.specs.declared.wanted.Wanted.TheVariants.{Unary}
 use Rattle.cr_grammar.specs.Expressions as ex
-use Rattle.cr_exact.specs.Reader.{Reader, ◌>>=◌, ◌>>◌, pure, Test, passes, seen, either, never, choose, only, part}
-use Rattle.cr_exact.specs.Lists.{separators}
+use Rattle.cr_readers.specs.Reader.{Reader, ◌>>=◌, ◌>>◌, pure, Test, passes, seen, either, never, choose, only, part}
+use Rattle.cr_readers.specs.Lists.{separators}
 use Rattle.cr_exact.specs.Exact.{Effort, Any}
 use Rattle.cr_exact.specs.Limits.{Tally, known, Counts, Whole}
-use Rattle.cr_descent.specs.Goes as g
-use Rattle.cr_descent.specs.Operations as operations
-use Rattle.cr_descent.specs.Operations.{Operator, operator_of}
+use Rattle.cr_readers.specs.Goes as g
+use Rattle.cr_readers.specs.Operations as operations
+use Rattle.cr_readers.specs.declared.operand.Operator.{Operator}
+use Rattle.cr_readers.specs.Operations.{operator_of}
 use Rattle.cr_exact.proofs.TokenTests.{Apart, stops_left, stops_right, never_stops, look_apart}
 use Rattle.cr_exact.proofs.Sequence.{weaken}
 use Rattle.cr_exact.proofs.Tokens.{Passing, Failing, exact_take, exact_word, a_token}
@@ -65,7 +67,7 @@ binary_nests at operator x y = grind (arith, the_lemmas)
 abbrev told : ℕ → Ended → Tally
 told n x = known (n + nodes x.0) (nesting x.0)
 
--- only where a sign may stand
+-- only where no sign stands
 counts_guarded : {A : Type 0} (b : Bool) (C : Form A) (goes : Test) (p : Reader A) {from : Tally} {to : A → Tally}
     → Counts Any C goes from to p → Counts Any (forms.guarded b C) goes from to (operations.no_sign b >> p)
 counts_guarded false C goes p cp = cp
@@ -75,7 +77,7 @@ counts_guarded true C goes p {from = from} {to = to} cp =
     (counts_only operations.is_spaced p
     (counts_weaken (Passing operations.is_spaced) (passing_same operations.is_spaced) (counts_map (forms.guarded true C) (λ w x c. c.1) cp)))
 
-module _ (effort : Effort) (rec : Wanted → Reader Tree) (S T : Wanted → Form Tree) (given : claims.Given effort rec S T) (counts : limits.GivenCounts rec T) where
+module _ {effort : Effort} {rec : Wanted → Reader Tree} {S T : Wanted → Form Tree} (given : claims.Given effort rec S T) (counts : limits.GivenCounts rec T) where
   -- ---- `!` and `-` before an operand
 
   module _ (within : Within) (free : Bool) where
@@ -97,17 +99,17 @@ module _ (effort : Effort) (rec : Wanted → Reader Tree) (S T : Wanted → Form
     negate at x = tree.Unary at prefix.Negate x
 
     abbrev postfix : Reader Tree
-    postfix = ops.postfix effort rec S T given within free
+    postfix = ops.postfix given within free
 
     counts_signed : limits.Trees (ex.unary_of T within free l.Minus negate <|> ex.postfix T within free) (g.goes_operand free)
         (choose (seen l.Minus) (operations.unary_of effort.turns rec within free l.Minus negate) postfix)
     counts_signed n =
         counts_choose (seen l.Minus) (ex.unary_of T within free l.Minus negate) (ex.postfix T within free) (g.goes_operand free)
         (operations.unary_of effort.turns rec within free l.Minus negate) postfix
-        (counts_weaken (Passing (seen l.Minus)) (passing_same (seen l.Minus)) (counts_prefix k.Minus prefix.Negate n))
-        (counts_weaken (Failing (seen l.Minus)) (failing_same (seen l.Minus)) (counts_postfix_tree effort rec S T given counts within free n))
+        (counts_weaken (Passing (seen l.Minus)) (passing_same (seen l.Minus)) (counts_prefix (k.Plain l.Minus) prefix.Negate n))
+        (counts_weaken (Failing (seen l.Minus)) (failing_same (seen l.Minus)) (counts_postfix_tree given counts within free n))
         (λ w x rest c. led_seen l.Minus w rest (led_at l.Minus w c.0 c.1 c.2 c.3 c.4))
-        (λ w x rest d stop. other_first l.Minus w rest (ops.postfix_some effort rec S T given within free w x d) (ops.not_minus effort rec S T given within free w x d))
+        (λ w x rest d stop. other_first l.Minus w rest (ops.postfix_some given within free w x d) (ops.not_minus given within free w x d))
 
   pub counts_unary : (within : Within) (free : Bool) → table.UnaryTree effort rec T within free
   counts_unary within free n =
@@ -115,16 +117,16 @@ module _ (effort : Effort) (rec : Wanted → Reader Tree) (S T : Wanted → Form
       counts_choose (seen l.Bang) (ex.unary_of T within free l.Bang not_) (ex.unary_of T within free l.Minus (negate within free) <|> ex.postfix T within free) (g.goes_operand free)
       (operations.unary_of effort.turns rec within free l.Bang not_)
       (choose (seen l.Minus) (operations.unary_of effort.turns rec within free l.Minus (negate within free)) (postfix within free))
-      (counts_weaken (Passing (seen l.Bang)) (passing_same (seen l.Bang)) (counts_prefix within free k.Bang prefix.Not n))
+      (counts_weaken (Passing (seen l.Bang)) (passing_same (seen l.Bang)) (counts_prefix within free (k.Plain l.Bang) prefix.Not n))
       (counts_weaken (Failing (seen l.Bang)) (failing_same (seen l.Bang)) (counts_signed within free n))
       (λ w x rest c. led_seen l.Bang w rest (led_at l.Bang w c.0 c.1 c.2 c.3 c.4))
-      (λ w x rest d stop. ops.other_than_bang effort rec S T given within free w x rest d)
+      (λ w x rest d stop. ops.other_than_bang given within free w x rest d)
 
   -- ---- an operator and its operand
 
   module _ (within : Within) (free : Bool) where
     abbrev Operand : ops.Line → Test → Reader Ended → Type 0
-    Operand = ops.Operand effort rec S T given within free
+    Operand = ops.Operand given within free
 
     -- A reader of operands counts their nodes.
     abbrev Sized : ops.Line → Test → Reader Ended → Type 0
@@ -154,13 +156,13 @@ module _ (effort : Effort) (rec : Wanted → Reader Tree) (S T : Wanted → Form
       counts_operation kind operator is =
           counts_map (ex.operation T within free tabled (L T) x)
           (forms.operation_out T within free tabled (L T) (λ w y c. begins_some (begins_or within) w (operand.begins w y c)) x)
-          (counts_wrapped (λ found. forms.guarded (o.is_name x.1 && found.sign) (behind found)) h (λ (found : Operator). found.at)
-          (λ found. operations.no_sign (o.is_name x.1 && found.sign) >> (separators effort.turns >> (part p >>= λ y. pure (node found y)))) (told n)
+          (counts_wrapped (λ found. forms.guarded (o.is_name x.1 && found.spaced_minus) (behind found)) h (λ (found : Operator). found.at)
+          (λ found. operations.no_sign (o.is_name x.1 && found.spaced_minus) >> (separators effort.turns >> (part p >>= λ y. pure (node found y)))) (told n)
           (λ t found e. sym (forms.operator_is t (tabled (look_of t.kind)) found e).1)
           (exact_take effort (λ t found. operator_of t (tabled (look_of t.kind)) ≡ Some found) never (λ t. operator_of t (tabled (look_of t.kind))) (λ t found e. e) (λ t found e. e)
-          (a_token kind) (record { at = 0; operator = operator; sign = o.is_minus (look_of kind) && false }) (ap (operator_of (a_token kind)) is))
+          (a_token kind) (record { at = 0; operator = operator; spaced_minus = o.is_minus (look_of kind) && false }) (ap (operator_of (a_token kind)) is))
           (λ found b y rest d stop. never_stops (b ++ rest)) (n + nodes x.0) (nesting x.0)
-          (λ found. counts_guarded (o.is_name x.1 && found.sign) (behind found) h (separators effort.turns >> (part p >>= λ y. pure (node found y))) (counts_behind found)))
+          (λ found. counts_guarded (o.is_name x.1 && found.spaced_minus) (behind found) h (separators effort.turns >> (part p >>= λ y. pure (node found y))) (counts_behind found)))
 
     -- operations of this table behind an operand, one time and again
     module _ (tabled : TokenLook → Option Binary) (kind : TokenKind) (operator : Binary) (is : tabled (look_of kind) ≡ Some operator)
@@ -175,8 +177,8 @@ module _ (effort : Effort) (rec : Wanted → Reader Tree) (S T : Wanted → Form
           (operations.operations effort.turns rec within free tabled p x)
       counts_chain n x =
           counts_repeated effort (g.is_operator tabled) h apart (ex.operation S within free tabled (L S)) (ex.operation T within free tabled (L T)) one_more
-          (λ x. weaken _ (ops.operation_exact effort rec S T given within free tabled kind operator is L h apart p operand x))
-          (ops.operation_heads effort rec S T given within free tabled kind operator is L h apart p operand)
+          (λ x. weaken _ (ops.operation_exact given within free tabled kind operator is L h apart p operand x))
+          (ops.operation_heads given within free tabled kind operator is L h apart p operand)
           (told n) (more_counts n) effort.turns x
 
       counts_single : (n : ℕ) (x : Ended) → Counts Any (forms.at_most_one T within free tabled (L T) x) (either (g.is_operator tabled) h) (told n x) (told n)
@@ -185,19 +187,19 @@ module _ (effort : Effort) (rec : Wanted → Reader Tree) (S T : Wanted → Form
           counts_choose (g.is_operator tabled) (ex.operation T within free tabled (L T) x) (nothing x) (either (g.is_operator tabled) h) (one_more x) (pure x)
           (counts_goes (either (g.is_operator tabled) h) (stops_right (g.is_operator tabled) h) (more_counts n x))
           (counts_weaken (Failing (g.is_operator tabled)) (failing_same (g.is_operator tabled)) (counts_pure x _ (told n x) (told n) refl))
-          (ops.operation_heads effort rec S T given within free tabled kind operator is L h apart p operand x)
+          (ops.operation_heads given within free tabled kind operator is L h apart p operand x)
           (λ w y rest d stop. rw d.0 (stops_left (g.is_operator tabled) h rest stop))
 
     -- ---- levels
 
     abbrev first : Reader Ended
-    first = ops.first effort rec S T given within free
+    first = ops.first given within free
 
     counts_first : Sized (λ V. ex.unary V within free) (g.goes_operand free) first
     counts_first n = counts_last (operations.unary effort.turns rec within free) (counts_unary within free n)
 
     abbrev Level : ops.Line → ops.Following → Test → (Ended → Reader Ended) → Type 0
-    Level = ops.Level effort rec S T given within free
+    Level = ops.Level given within free
 
     -- What follows the first operand of a level is counted.
     abbrev Follow : ops.Following → Test → (Ended → Reader Ended) → Type 0
@@ -207,7 +209,7 @@ module _ (effort : Effort) (rec : Wanted → Reader Tree) (S T : Wanted → Form
       sized_of : Sized L h (first >>= from)
       sized_of n =
           counts_map (with_last (L T)) level.there.out
-          (counts_bind (F T) h from (told n) (ops.exact_first effort rec S T given within free) (counts_first n) (follow n) level.stops)
+          (counts_bind (F T) h from (told n) (ops.exact_first given within free) (counts_first n) (follow n) level.stops)
 
       module _ (tabled : TokenLook → Option Binary) (kind : TokenKind) (operator : Binary) (is : tabled (look_of kind) ≡ Some operator) (apart : Apart (g.is_operator tabled) h) where
         chain_above : Follow (λ V x. f.◌>>=◌ (F V x) (forms.chain V within free tabled (L V))) (either (g.is_operator tabled) h)
@@ -215,8 +217,8 @@ module _ (effort : Effort) (rec : Wanted → Reader Tree) (S T : Wanted → Form
         chain_above n x =
             counts_bind (forms.chain T within free tabled (L T)) (either (g.is_operator tabled) h) (operations.operations effort.turns rec within free tabled (first >>= from)) (told n)
             (level.exact x) (follow n x)
-            (counts_chain tabled kind operator is L h apart (first >>= from) (ops.operand_of effort rec S T given within free level) sized_of n)
-            (λ x b y rest c stop. ops.chain_stops effort rec S T given within free tabled kind operator is L h apart (first >>= from) (ops.operand_of effort rec S T given within free level) c.0 x b y rest c.1 stop)
+            (counts_chain tabled kind operator is L h apart (first >>= from) (ops.operand_of given within free level) sized_of n)
+            (λ x b y rest c stop. ops.chain_stops given within free tabled kind operator is L h apart (first >>= from) (ops.operand_of given within free level) c.0 x b y rest c.1 stop)
 
         single_above : Follow (λ V x. f.◌>>=◌ (F V x) (forms.at_most_one V within free tabled (L V))) (either (g.is_operator tabled) h)
             (λ x. from x >>= λ y. choose (g.is_operator tabled) (operations.operation effort.turns rec within free tabled (first >>= from) y) (pure y))
@@ -224,42 +226,42 @@ module _ (effort : Effort) (rec : Wanted → Reader Tree) (S T : Wanted → Form
             counts_bind (forms.at_most_one T within free tabled (L T)) (either (g.is_operator tabled) h)
             (λ y. choose (g.is_operator tabled) (operations.operation effort.turns rec within free tabled (first >>= from) y) (pure y)) (told n)
             (level.exact x) (follow n x)
-            (counts_single tabled kind operator is L h apart (first >>= from) (ops.operand_of effort rec S T given within free level) sized_of n)
-            (ops.single_stops effort rec S T given within free tabled kind operator is L h apart (first >>= from) (ops.operand_of effort rec S T given within free level))
+            (counts_single tabled kind operator is L h apart (first >>= from) (ops.operand_of given within free level) sized_of n)
+            (ops.single_stops given within free tabled kind operator is L h apart (first >>= from) (ops.operand_of given within free level))
 
     -- ---- each level of the grammar
 
     prod_follow : Follow (λ V. forms.prod_rest V within free) (g.goes_prod free) (operations.prod_from effort.turns rec within free)
     prod_follow =
-        counts_chain o.prod_operator k.Star binary.Star refl (λ V. ex.unary V within free) (g.goes_operand free) (ops.apart_prod free) first
-        (ops.first_operand effort rec S T given within free) counts_first
+        counts_chain o.prod_operator (k.Plain l.Star) binary.Star refl (λ V. ex.unary V within free) (g.goes_operand free) (ops.apart_prod free) first
+        (ops.first_operand given within free) counts_first
 
     sum_follow : Follow (λ V. forms.sum_rest V within free) (g.goes_sum free) (operations.sum_from effort.turns rec within free)
-    sum_follow = chain_above (ops.prod_level effort rec S T given within free) prod_follow o.sum_operator k.Plus binary.Plus refl (ops.apart_sum free)
+    sum_follow = chain_above (ops.prod_level given within free) prod_follow o.sum_operator (k.Plain l.Plus) binary.Plus refl (ops.apart_sum free)
 
     shift_follow : Follow (λ V. forms.shift_rest V within free) (g.goes_shift free) (operations.shift_from effort.turns rec within free)
-    shift_follow = chain_above (ops.sum_level effort rec S T given within free) sum_follow o.shift_operator k.ShiftLeft binary.ShiftLeft refl (ops.apart_shift free)
+    shift_follow = chain_above (ops.sum_level given within free) sum_follow o.shift_operator (k.Plain l.ShiftLeft) binary.ShiftLeft refl (ops.apart_shift free)
 
     cmp_follow : Follow (λ V. forms.cmp_rest V within free) (g.goes_cmp free) (operations.cmp_from effort.turns rec within free)
-    cmp_follow = single_above (ops.shift_level effort rec S T given within free) shift_follow o.cmp_operator k.Less binary.Less refl (ops.apart_cmp free)
+    cmp_follow = single_above (ops.shift_level given within free) shift_follow o.cmp_operator (k.Plain l.Less) binary.Less refl (ops.apart_cmp free)
 
     and_follow : Follow (λ V. forms.and_rest V within free) (g.goes_and free) (operations.and_from effort.turns rec within free)
-    and_follow = chain_above (ops.cmp_level effort rec S T given within free) cmp_follow o.and_operator k.AndAnd binary.And refl (ops.apart_and free)
+    and_follow = chain_above (ops.cmp_level given within free) cmp_follow o.and_operator (k.Plain l.AndAnd) binary.And refl (ops.apart_and free)
 
     or_follow : Follow (λ V. forms.or_rest V within free) (g.goes_or free) (operations.or_from effort.turns rec within free)
-    or_follow = chain_above (ops.and_level effort rec S T given within free) and_follow o.or_operator k.OrOr binary.Or refl (ops.apart_or free)
+    or_follow = chain_above (ops.and_level given within free) and_follow o.or_operator (k.Plain l.OrOr) binary.Or refl (ops.apart_or free)
 
   pub counts_or_from : (within : Within) (free : Bool) → table.OrFrom effort rec T within free
   counts_or_from within free x n = or_follow within free n x
 
   pub counts_or : (within : Within) (free : Bool) → table.OrTree effort rec T within free
   counts_or within free n =
-      counts_map (ex.or T within free) (ops.or_tree_back effort rec S T given within free T)
-      (counts_bind (ops.or_tree effort rec S T given within free T) (g.goes_or free) (λ x. operations.or_from effort.turns rec within free x >>= λ y. pure y.0) (λ x. known (n + nodes x) (nesting x))
-      (ops.exact_first effort rec S T given within free) (counts_first within free n)
+      counts_map (ex.or T within free) (ops.or_tree_back given within free T)
+      (counts_bind (ops.or_tree given within free T) (g.goes_or free) (λ x. operations.or_from effort.turns rec within free x >>= λ y. pure y.0) (λ x. known (n + nodes x) (nesting x))
+      (ops.exact_first given within free) (counts_first within free n)
       (λ x. counts_bind_quiet (λ y. nothing y.0) (g.goes_or free) (λ y. pure y.0) (λ x. known (n + nodes x) (nesting x))
       (counts_or_from within free x n)
       (λ y. counts_pure y.0 (g.goes_or free) (told n y) (λ x. known (n + nodes x) (nesting x)) refl)
       (λ y. (still_pure y.0).lets)
       (λ y b z rest d stop. rw d.0 stop))
-      (λ x b z rest d stop. let m = made_out (forms.or_rest T within free x) (λ y. y.0) b z d in ops.or_rest_stops effort rec S T given within free x b m.0 rest m.1 stop))
+      (λ x b z rest d stop. let m = made_out (forms.or_rest T within free x) (λ y. y.0) b z d in ops.or_rest_stops given within free x b m.0 rest m.1 stop))

@@ -1,5 +1,6 @@
 -- What is counted at the head of a postfix.
 use Rattle.std.proofs.Common.{◌≡◌, ℕ, ◌+◌, max, Bool, List, [], map, Option, Some, None, inl, inr, refl, sym, ap, ◌∙◌, arith, false}
+use Rattle.std.proofs.lemmas.List.Sums.{sum_by-append}
 use Rattle.std.specs.Prelude.{sum}
 use Rattle.cr_syntax.specs.declared.look.TokenLook.{TokenLook}
 use Rattle.cr_syntax.specs.declared.look.TokenLook.TheVariants as l
@@ -11,19 +12,25 @@ use Rattle.cr_grammar.specs.declared.tree.Tree.{Tree, the_lemmas}
 use Rattle.cr_grammar.specs.declared.tree.Tree.TheVariants as tree
 use Rattle.cr_grammar.specs.declared.within.Within.{Within}
 use Rattle.cr_grammar.specs.Count.{nodes, nesting}
-use Rattle.cr_grammar.specs.Forms.{Form, Word, nothing}
+use Rattle.cr_grammar.specs.declared.word.Word.{Word}
+use Rattle.cr_grammar.specs.Forms.{Form, nothing}
 use Rattle.cr_grammar.specs.Forms as f
-use Rattle.cr_grammar.specs.Wanted.{Wanted, Stmt, in_object}
+use Rattle.cr_grammar.specs.declared.wanted.Wanted.{Wanted}
+use Rattle.cr_grammar.specs.declared.wanted.Wanted.TheVariants.{Stmt}
+use Rattle.cr_grammar.specs.Wanted.{in_object}
 use Rattle.cr_grammar.specs.Laws.{begins_stmt}
 use Rattle.cr_grammar.specs.Expressions as ex
-use Rattle.cr_exact.specs.Reader.{Reader, Test, seen, tight_seen, never, allow, pure}
-use Rattle.cr_exact.specs.Lists.{parenthesized}
+use Rattle.cr_readers.specs.Goes as goes_tests
+use Rattle.cr_readers.specs.Reader.{Reader, Test, seen, tight_seen, never, allow, pure}
+use Rattle.cr_readers.specs.Lists.{parenthesized}
 use Rattle.cr_exact.specs.Exact.{Effort}
 use Rattle.cr_exact.specs.Limits.{Tally, known, unknown, tall, size_of_all, top_of_all, if_some}
-use Rattle.cr_descent.specs.Goes.{goes_primary, goes_stmt}
-use Rattle.cr_descent.specs.Operand.{Operand, Variable, Whole, whole, named, yielded, above}
-use Rattle.cr_descent.specs.Bodies as bodies
-use Rattle.cr_descent.specs.Primaries as primaries
+use Rattle.cr_readers.specs.Goes.{goes_primary, goes_stmt}
+use Rattle.cr_readers.specs.declared.operand.Operand.{Operand}
+use Rattle.cr_readers.specs.declared.operand.Operand.TheVariants.{Variable, Whole}
+use Rattle.cr_readers.specs.Operand.{whole, named, yielded, above}
+use Rattle.cr_readers.specs.Bodies as bodies
+use Rattle.cr_readers.specs.Primaries as primaries
 use Rattle.cr_exact.proofs.TokenTests.{look_apart, less_never, Less}
 use Rattle.cr_exact.proofs.Tokens.{Looks, Led, exact_word}
 use Rattle.cr_exact.proofs.Heads.{first_tested}
@@ -31,7 +38,7 @@ use Rattle.cr_exact.proofs.Follows.{follows_bind, follows_never, follows_maybe, 
 use Rattle.cr_exact.proofs.Limits.{counts_bind, counts_bind_quiet, counts_pure, counts_weaken, counts_map, still_pure}
 use Rattle.cr_exact.proofs.LimitSteps.{counts_grown}
 use Rattle.cr_exact.proofs.LimitChoices.{Way, counts_by, looks_same, way_where}
-use Rattle.cr_exact.proofs.LimitParts.{known_is, sum_append, tall_append}
+use Rattle.cr_exact.proofs.LimitParts.{known_is, tall_append}
 use Rattle.cr_exact.proofs.LimitLists.{counts_parenthesized, counts_one}
 use Rattle.cr_descent.proofs.Words.{exact_ident, exact_instance_variable}
 use Rattle.cr_descent.proofs.Operands as operands
@@ -53,7 +60,7 @@ use Rattle.cr_descent.proofs.LimitNodes.{node_told, node_with_told, held, held_s
 call_are : (at : ℕ) (text : List ℕ) (arguments : List Tree) (block : Option Tree) → nodes (tree.Call at None text arguments block) ≡ 1 + sum (map nodes arguments) + if_some nodes block
 call_are at text arguments block =
     let a = call_nodes at None text arguments block in
-    let c = sum_append (map nodes arguments) (held nodes block) in
+    let c = sum_by-append (λ n. n) (map nodes arguments) (held nodes block) in
     let d = held_sum block in
     omega (arith, a, c, d)
 
@@ -99,7 +106,7 @@ above_told : (n at : ℕ) (found : Option (List Tree)) → told n (above at foun
 above_told n at None = alone_told n (tree.BareSuper at) (search the_lemmas) (search the_lemmas)
 above_told n at (Some arguments) = node_told n (tree.Super at arguments) arguments (search the_lemmas) (search the_lemmas)
 
-module _ (effort : Effort) (rec : Wanted → Reader Tree) (S T : Wanted → Form Tree) (given : claims.Given effort rec S T) (counts : limits.GivenCounts rec T) (within : Within) (free : Bool) where
+module _ {effort : Effort} {rec : Wanted → Reader Tree} {S T : Wanted → Form Tree} (given : claims.Given effort rec S T) (counts : limits.GivenCounts rec T) (within : Within) (free : Bool) where
   abbrev turns : ℕ
   turns = effort.turns
 
@@ -126,8 +133,8 @@ module _ (effort : Effort) (rec : Wanted → Reader Tree) (S T : Wanted → Form
   counts_spawned : limits.Trees (ex.spawned T within free) never (primaries.spawned turns rec within free)
   counts_spawned n =
       let to : Tree → Tally = λ x. known (n + nodes x) (nesting x) in
-      counts_grown spawned_behind never (λ at. at) _ to (λ t x e. sym e.1) (exact_word effort k.Spawn never) (λ at. follows_never (spawned_behind at) never) n
-      (λ at. counts_bind_quiet (λ body. nothing (tree.Spawn at None body)) never (λ body. pure (tree.Spawn at None body)) to (counts_plain effort rec S T given counts within free (n + 1) 1)
+      counts_grown spawned_behind never (λ at. at) _ to (λ t x e. sym e.1) (exact_word effort (k.Plain l.Spawn) never) (λ at. follows_never (spawned_behind at) never) n
+      (λ at. counts_bind_quiet (λ body. nothing (tree.Spawn at None body)) never (λ body. pure (tree.Spawn at None body)) to (counts_plain given counts within free (n + 1) 1)
       (λ body. counts_pure (tree.Spawn at None body) never _ to (node_told n (tree.Spawn at None body) body (search the_lemmas) (search the_lemmas)))
       (λ body. (still_pure (tree.Spawn at None body)).lets)
       (λ body. follows_never (nothing (tree.Spawn at None body)) never))
@@ -149,12 +156,12 @@ module _ (effort : Effort) (rec : Wanted → Reader Tree) (S T : Wanted → Form
   counts_name : table.Operands (operands.name T within free) goes (primaries.name turns rec within free)
   counts_name n =
       counts_grown name_behind goes (λ (name : Word). name.at) _ (told n) (λ t x e. sym e.1) (exact_ident effort never) (λ name. follows_never (name_behind name) goes) n
-      (λ name. counts_bind (named_behind name) goes _ (told n) (exact_arguments effort rec S T given within free) (counts_arguments effort rec S T given counts within free (n + 1) 1)
+      (λ name. counts_bind (named_behind name) goes _ (told n) (exact_arguments given within free) (counts_arguments given counts within free (n + 1) 1)
       (λ arguments. counts_bind_quiet (λ block. nothing (named name arguments block)) goes (λ block. pure (named name arguments block)) (told n)
-      (counts_maybe_block effort rec S T given counts within free (n + 1 + if_some (size_of_all nodes) arguments) (max 1 (if_some (top_of_all part_height) arguments)))
+      (counts_maybe_block given counts within free (n + 1 + if_some (size_of_all nodes) arguments) (max 1 (if_some (top_of_all part_height) arguments)))
       (λ block. counts_pure (named name arguments block) goes _ (told n) (named_told n name arguments block))
       (λ block. (still_pure (named name arguments block)).lets)
-      (λ block. follows_nothing (bodies.begins_block turns rec free) goes (named name arguments block) (block_less turns rec free)))
+      (λ block. follows_nothing (goes_tests.begins_block free) goes (named name arguments block) (block_less turns rec free)))
       (λ arguments. follows_bind (tight_seen l.OpenParenthesis) goes (f.maybe (ex.block T within free)) (λ block. nothing (named name arguments block))
       (follows_maybe (tight_seen l.OpenParenthesis) (tight_seen l.OpenParenthesis) (ex.block T within free) (λ look spaced e. e)
       (follows_ahead (tight_seen l.OpenParenthesis) (tight_seen l.OpenParenthesis) (ex.block T within free) (no_parenthesis free _ _)))
@@ -165,7 +172,7 @@ module _ (effort : Effort) (rec : Wanted → Reader Tree) (S T : Wanted → Form
   counts_passed_on kind make is n =
       let behind : ℕ → Form Operand = λ at. f.◌>>=◌ (operands.arguments T within free) (λ arguments. nothing (make at arguments)) in
       counts_grown behind goes (λ at. at) _ (told n) (λ t x e. sym e.1) (exact_word effort kind never) (λ at. follows_never (behind at) goes) n
-      (λ at. counts_bind_quiet (λ arguments. nothing (make at arguments)) goes (λ arguments. pure (make at arguments)) (told n) (counts_arguments effort rec S T given counts within free (n + 1) 1)
+      (λ at. counts_bind_quiet (λ arguments. nothing (make at arguments)) goes (λ arguments. pure (make at arguments)) (told n) (counts_arguments given counts within free (n + 1) 1)
       (λ arguments. counts_pure (make at arguments) goes _ (told n) (is n at arguments))
       (λ arguments. (still_pure (make at arguments)).lets)
       (λ arguments. follows_nothing (tight_seen l.OpenParenthesis) goes (make at arguments) (parenthesis_less free)))
@@ -179,13 +186,13 @@ module _ (effort : Effort) (rec : Wanted → Reader Tree) (S T : Wanted → Form
 
   -- A text begins with another token if something is inserted in it.
   abbrev told_by : TokenLook → Form Operand
-  told_by l.Text = all_of (heads.whole_text effort rec S T given within free)
+  told_by l.Text = all_of (heads.whole_text given within free)
   told_by l.TextFirst = all_of (ex.insertions T within free)
   told_by other = operands.primary_by T within free other
 
   text_back : (look : TokenLook) (w : List Token) (x : Operand) → Led look w → operands.primary_by T within free look w x → told_by look w x
-  text_back l.Text w x led c = heads.whole_back effort rec S T given within free w x led c
-  text_back l.TextFirst w x led c = heads.first_back effort rec S T given within free w x led c
+  text_back l.Text w x led c = heads.whole_back given within free w x led c
+  text_back l.TextFirst w x led c = heads.first_back given within free w x led c
   text_back other w x led c = c
 
   module _ (n : ℕ) where
@@ -204,31 +211,31 @@ module _ (effort : Effort) (rec : Wanted → Reader Tree) (S T : Wanted → Form
     head_where look flag C p cp = way_where look flag C goes p (unknown n) (told n) (λ is. counts_weaken (Looks look) (looks_same look) (cp n))
 
     way : (look : TokenLook) → Head look (told_by look) (primaries.primary_by turns rec within free look)
-    way l.Int32 = tree_head l.Int32 _ never _ (less_never goes) (counts_number effort rec S T given counts within free)
-    way l.Int64 = tree_head l.Int64 _ never _ (less_never goes) (counts_number effort rec S T given counts within free)
-    way l.Text = tree_head l.Text _ never _ (less_never goes) (counts_text effort rec S T given counts within free)
-    way l.TextFirst = tree_head l.TextFirst _ never _ (less_never goes) (counts_insertions effort rec S T given counts within free)
-    way l.Nil = tree_head l.Nil _ never _ (less_never goes) (counts_leaf k.Nil (λ at. tree.Nil at) (λ at. search the_lemmas) (λ at. search the_lemmas))
-    way l.True = tree_head l.True _ never _ (less_never goes) (counts_leaf k.True (λ at. tree.True at) (λ at. search the_lemmas) (λ at. search the_lemmas))
-    way l.False = tree_head l.False _ never _ (less_never goes) (counts_leaf k.False (λ at. tree.False at) (λ at. search the_lemmas) (λ at. search the_lemmas))
+    way l.Int32 = tree_head l.Int32 _ never _ (less_never goes) (counts_number given counts within free)
+    way l.Int64 = tree_head l.Int64 _ never _ (less_never goes) (counts_number given counts within free)
+    way l.Text = tree_head l.Text _ never _ (less_never goes) (counts_text given counts within free)
+    way l.TextFirst = tree_head l.TextFirst _ never _ (less_never goes) (counts_insertions given counts within free)
+    way l.Nil = tree_head l.Nil _ never _ (less_never goes) (counts_leaf (k.Plain l.Nil) (λ at. tree.Nil at) (λ at. search the_lemmas) (λ at. search the_lemmas))
+    way l.True = tree_head l.True _ never _ (less_never goes) (counts_leaf (k.Plain l.True) (λ at. tree.True at) (λ at. search the_lemmas) (λ at. search the_lemmas))
+    way l.False = tree_head l.False _ never _ (less_never goes) (counts_leaf (k.Plain l.False) (λ at. tree.False at) (λ at. search the_lemmas) (λ at. search the_lemmas))
     way l.KeywordSelf =
         head_where l.KeywordSelf (in_object within) _ _
-        (counts_all _ never _ (less_never goes) (counts_leaf k.KeywordSelf (λ at. tree.KeywordSelf at) (λ at. search the_lemmas) (λ at. search the_lemmas)))
+        (counts_all _ never _ (less_never goes) (counts_leaf (k.Plain l.KeywordSelf) (λ at. tree.KeywordSelf at) (λ at. search the_lemmas) (λ at. search the_lemmas)))
     way l.InstanceVariable = head_where l.InstanceVariable (in_object within) _ _ counts_variable
     way l.Ident = head l.Ident _ _ counts_name
-    way l.Yield = head_where l.Yield within.method _ _ (counts_passed_on k.Yield yielded yielded_told)
-    way l.Super = head_where l.Super within.method _ _ (counts_passed_on k.Super above above_told)
-    way l.Constant = tree_head l.Constant _ goes _ (λ look spaced e. e) (classes.counts_of_class effort rec S T given counts within free)
-    way l.OpenBracket = tree_head l.OpenBracket _ goes _ (λ look spaced e. e) (counts_array effort rec S T given counts within free)
-    way l.OpenBrace = tree_head l.OpenBrace _ goes _ (λ look spaced e. e) (counts_hash effort rec S T given counts within free)
+    way l.Yield = head_where l.Yield within.method _ _ (counts_passed_on (k.Plain l.Yield) yielded yielded_told)
+    way l.Super = head_where l.Super within.method _ _ (counts_passed_on (k.Plain l.Super) above above_told)
+    way l.Constant = tree_head l.Constant _ goes _ (λ look spaced e. e) (classes.counts_of_class given counts within free)
+    way l.OpenBracket = tree_head l.OpenBracket _ goes _ (λ look spaced e. e) (counts_array given counts within free)
+    way l.OpenBrace = tree_head l.OpenBrace _ goes _ (λ look spaced e. e) (counts_hash given counts within free)
     way l.OpenParenthesis = tree_head l.OpenParenthesis _ never _ (less_never goes) counts_statement
     way l.Spawn = tree_head l.Spawn _ never _ (less_never goes) counts_spawned
-    way l.If = tree_head l.If _ never _ (less_never goes) (counts_conditional effort rec S T given counts within free).0
-    way l.Unless = tree_head l.Unless _ never _ (less_never goes) (counts_conditional effort rec S T given counts within free).1
-    way l.While = tree_head l.While _ never _ (less_never goes) (counts_looping effort rec S T given counts within free).0
-    way l.Until = tree_head l.Until _ never _ (less_never goes) (counts_looping effort rec S T given counts within free).1
-    way l.Case = tree_head l.Case _ never _ (less_never goes) (counts_cases effort rec S T given counts within free)
-    way l.Select = tree_head l.Select _ never _ (less_never goes) (counts_select effort rec S T given counts within free)
+    way l.If = tree_head l.If _ never _ (less_never goes) (counts_conditional given counts within free).0
+    way l.Unless = tree_head l.Unless _ never _ (less_never goes) (counts_conditional given counts within free).1
+    way l.While = tree_head l.While _ never _ (less_never goes) (counts_looping given counts within free).0
+    way l.Until = tree_head l.Until _ never _ (less_never goes) (counts_looping given counts within free).1
+    way l.Case = tree_head l.Case _ never _ (less_never goes) (counts_cases given counts within free)
+    way l.Select = tree_head l.Select _ never _ (less_never goes) (counts_select given counts within free)
     way other = inr (refl, λ w x led c. c)
 
   counts_here : table.Primary effort rec T within free
@@ -236,6 +243,6 @@ module _ (effort : Effort) (rec : Wanted → Reader Tree) (S T : Wanted → Form
       counts_map (operands.primary T within free) (λ w x c. (c.0, c.1, text_back c.0 w x c.1 c.2))
       (counts_by (primaries.primary_by turns rec within free) told_by goes (way n))
 
-module _ (effort : Effort) (rec : Wanted → Reader Tree) (S T : Wanted → Form Tree) (given : claims.Given effort rec S T) (counts : limits.GivenCounts rec T) where
+module _ {effort : Effort} {rec : Wanted → Reader Tree} {S T : Wanted → Form Tree} (given : claims.Given effort rec S T) (counts : limits.GivenCounts rec T) where
   pub counts_primary : (within : Within) (free : Bool) → table.Primary effort rec T within free
-  counts_primary within free = counts_here effort rec S T given counts within free
+  counts_primary within free = counts_here given counts within free

@@ -1,5 +1,6 @@
 -- What is counted behind an operand that begins a statement.
 use Rattle.std.proofs.Common.{◌≡◌, ℕ, ◌+◌, ◌<◌, max, true, false, List, [], ◌++◌, map, Option, Some, None, refl, sym, arith}
+use Rattle.std.proofs.lemmas.List.Sums.{sum_by-append}
 use Rattle.std.specs.Prelude.{sum}
 use Rattle.cr_syntax.specs.declared.look.TokenLook.{TokenLook}
 use Rattle.cr_syntax.specs.declared.look.TokenLook.TheVariants as l
@@ -9,17 +10,19 @@ use Rattle.cr_grammar.specs.declared.tree.Tree.{Tree, the_lemmas}
 use Rattle.cr_grammar.specs.declared.tree.Tree.TheVariants as tree
 use Rattle.cr_grammar.specs.declared.within.Within.{Within}
 use Rattle.cr_grammar.specs.Count.{nodes, nesting}
-use Rattle.cr_grammar.specs.Forms.{Form, Word, nothing, maybe, listed}
+use Rattle.cr_grammar.specs.declared.word.Word.{Word}
+use Rattle.cr_grammar.specs.Forms.{Form, nothing, maybe, listed}
 use Rattle.cr_grammar.specs.Forms as f
-use Rattle.cr_grammar.specs.Wanted.{Wanted, Or, Simple}
+use Rattle.cr_grammar.specs.declared.wanted.Wanted.{Wanted}
+use Rattle.cr_grammar.specs.declared.wanted.Wanted.TheVariants.{Or, Simple}
 use Rattle.cr_grammar.specs.Expressions as ex
-use Rattle.cr_exact.specs.Reader.{Reader, seen, either, never, part, pure, ◌>>=◌}
-use Rattle.cr_exact.specs.Lists.{optional}
+use Rattle.cr_readers.specs.Reader.{Reader, seen, either, never, part, pure, ◌>>=◌}
+use Rattle.cr_readers.specs.Lists.{optional}
 use Rattle.cr_exact.specs.Exact.{Effort, Any}
 use Rattle.cr_exact.specs.Limits.{known, Counts, tall, size_of_all, top_of_all, if_some}
-use Rattle.cr_descent.specs.Goes as g
-use Rattle.cr_descent.specs.Bodies.{doblock}
-use Rattle.cr_descent.specs.Statements as statements
+use Rattle.cr_readers.specs.Goes as g
+use Rattle.cr_readers.specs.Bodies.{doblock}
+use Rattle.cr_readers.specs.Statements as statements
 use Rattle.cr_exact.proofs.TokenTests.{never_stops, stops_less}
 use Rattle.cr_exact.proofs.Tokens.{Passing}
 use Rattle.cr_exact.proofs.Heads.{led_seen}
@@ -28,7 +31,7 @@ use Rattle.cr_exact.proofs.Nodes.{exact_part}
 use Rattle.cr_exact.proofs.Limits.{counts_bind, counts_bind_quiet, counts_pure, counts_goes, counts_weaken, still_pure}
 use Rattle.cr_exact.proofs.LimitSteps.{counts_wrapped}
 use Rattle.cr_exact.proofs.LimitChoices.{passing_same}
-use Rattle.cr_exact.proofs.LimitParts.{sum_append, tall_append, known_is, rises_part, rises_optional}
+use Rattle.cr_exact.proofs.LimitParts.{tall_append, known_is, rises_part, rises_optional}
 use Rattle.cr_exact.proofs.LimitLists.{rises_listed_parts}
 use Rattle.cr_descent.proofs.Claims as claims
 use Rattle.cr_descent.proofs.LimitClaims as limits
@@ -38,7 +41,7 @@ use Rattle.cr_descent.proofs.StatementForms as forms
 use Rattle.cr_descent.proofs.Statements.{simple_or, simple_word, exact_assigning, exact_arguments, comma_apart, block_led, follows_block, arguments_less}
 use Rattle.cr_descent.proofs.LimitTable.{part_height}
 use Rattle.cr_descent.proofs.LimitNodes.{told, parts_high, held, held_sum, held_high, call_nodes, call_nesting}
-use Rattle.cr_descent.proofs.Bodies.{or_halts}
+use Rattle.cr_descent.proofs.Bodies.{or_fails}
 
 -- ---- the nodes of calls and assignments
 
@@ -51,11 +54,11 @@ call_is : (receiver : Option Tree) (at : ℕ) (name : List ℕ) (arguments : Lis
 call_is receiver at name arguments block =
     let whole = call_nodes at receiver name arguments block in
     let bare = call_nodes at receiver name [] None in
-    let a = sum_append (held nodes receiver ++ map nodes arguments) (held nodes block) in
-    let b = sum_append (held nodes receiver) (map nodes arguments) in
+    let a = sum_by-append (λ n. n) (held nodes receiver ++ map nodes arguments) (held nodes block) in
+    let b = sum_by-append (λ n. n) (held nodes receiver) (map nodes arguments) in
     let c = held_sum block in
-    let d = sum_append (held nodes receiver ++ []) [] in
-    let e = sum_append (held nodes receiver) [] in
+    let d = sum_by-append (λ n. n) (held nodes receiver ++ []) [] in
+    let e = sum_by-append (λ n. n) (held nodes receiver) [] in
     omega (arith, whole, bare, a, b, c, d, e)
 
 call_nests : (receiver : Option Tree) (at : ℕ) (name : List ℕ) (arguments : List Tree) (block : Option Tree)
@@ -125,7 +128,7 @@ passing_told n x bare arguments many high one flat =
 
 -- ---- what follows an operand
 
-module _ (effort : Effort) (rec : Wanted → Reader Tree) (S T : Wanted → Form Tree) (given : claims.Given effort rec S T) (counts : limits.GivenCounts rec T) (within : Within) where
+module _ {effort : Effort} {rec : Wanted → Reader Tree} {S T : Wanted → Form Tree} (given : claims.Given effort rec S T) (counts : limits.GivenCounts rec T) (within : Within) where
   pub counts_assignment : (n : ℕ) (at : ℕ) (target : Tree) (table : TokenLook → Option Assignment) → table l.Equal ≡ Some assignments.Plain
       → Counts Any (forms.assigned_rest T within at target table) g.goes_simple (told n target) (told n) (statements.assignment effort.turns rec within at target table)
   counts_assignment n at target table equal =
@@ -146,7 +149,7 @@ module _ (effort : Effort) (rec : Wanted → Reader Tree) (S T : Wanted → Form
   counts_arguments n height =
       let some = given.some (Or within false) in
       rises_listed_parts effort (S (Or within false)) (T (Or within false)) (g.goes_or false) (part (rec (Or within false))) (exact_part _ (given.exact (Or within false)))
-      (or_halts effort rec S T given within false l.Newline refl) some.0 some.1 some.2 comma_apart nodes part_height (rises_part nodes nesting (counts.or within false)) n height
+      (or_fails given within false l.Newline refl) some.0 some.1 some.2 comma_apart nodes part_height (rises_part nodes nesting (counts.or within false)) n height
 
   -- args [ doblock ]
   pub counts_command : (n : ℕ) (receiver : Option Tree) (name : Word)
@@ -157,16 +160,16 @@ module _ (effort : Effort) (rec : Wanted → Reader Tree) (S T : Wanted → Form
       let bare = call receiver name.at name.text [] None in
       counts_bind (λ xs. f.◌>>=◌ (maybe (ex.doblock T within)) (λ b. nothing (make xs b))) g.goes_simple
       (λ xs. optional (seen l.Do) (doblock effort.turns rec within) >>= λ b. pure (make xs b)) (told n)
-      (exact_arguments effort rec S T given within) (counts_arguments (n + nodes bare) (nesting bare))
+      (exact_arguments given within) (counts_arguments (n + nodes bare) (nesting bare))
       (λ xs. counts_bind_quiet (λ b. nothing (make xs b)) g.goes_simple (λ b. pure (make xs b)) (told n)
       (rises_optional (ex.doblock T within) never (doblock effort.turns rec within) (seen l.Do) nodes part_height
-      (λ w x rest c. led_seen l.Do w rest (block_led effort rec S T given within w x c))
-      (λ all height. counts_weaken (Passing (seen l.Do)) (passing_same (seen l.Do)) (counts_doblock effort rec S T given counts within all height))
+      (λ w x rest c. led_seen l.Do w rest (block_led given within w x c))
+      (λ all height. counts_weaken (Passing (seen l.Do)) (passing_same (seen l.Do)) (counts_doblock given counts within all height))
       (n + nodes bare + size_of_all nodes xs) (max (nesting bare) (top_of_all part_height xs)))
       (λ b. counts_pure (make xs b) g.goes_simple _ (told n) (call_told n receiver name.at name.text xs b))
       (λ b. (still_pure (make xs b)).lets)
       (λ b. follows_nothing (either (seen l.Do) never) g.goes_simple (make xs b) (λ look spaced e. rw ((simple_word look spaced e).0) refl)))
-      (λ xs. follows_block effort rec S T given within (make xs))
+      (λ xs. follows_block given within (make xs))
 
   -- args, behind a bare word
   pub counts_passing : (n : ℕ) (bare : Tree) (make : List Tree → Tree) → ((xs : List Tree) → told n (make xs) ≡ known (n + nodes bare + size_of_all nodes xs) (max (nesting bare) (top_of_all part_height xs)))
@@ -176,12 +179,12 @@ module _ (effort : Effort) (rec : Wanted → Reader Tree) (S T : Wanted → Form
       (counts_arguments (n + nodes bare) (nesting bare))
       (λ xs. counts_pure (make xs) g.goes_simple _ (told n) (is xs))
       (λ xs. (still_pure (make xs)).lets)
-      (λ xs. follows_nothing (either (seen l.Comma) (g.goes_or false)) g.goes_simple (make xs) (arguments_less effort rec S T given within))
+      (λ xs. follows_nothing (either (seen l.Comma) (g.goes_or false)) g.goes_simple (make xs) (arguments_less given within))
 
   pub counts_operated : (n : ℕ) (x : Tree × TokenLook) → Counts Any (forms.operated T within x) g.goes_simple (told n x.0) (told n) (statements.operation_behind effort.turns rec within x)
   counts_operated n x =
       counts_bind_quiet (λ (y : Tree × TokenLook). nothing y.0) g.goes_simple (λ (y : Tree × TokenLook). pure y.0) (told n)
-      (counts_goes g.goes_simple (λ rest stop. stops_less (g.goes_or true) g.goes_simple (simple_or true) rest stop) (counts_or_from effort rec S T given counts within true x n))
+      (counts_goes g.goes_simple (λ rest stop. stops_less (g.goes_or true) g.goes_simple (simple_or true) rest stop) (counts_or_from given counts within true x n))
       (λ y. counts_pure y.0 g.goes_simple _ (told n) refl)
       (λ y. (still_pure y.0).lets)
       (λ y. follows_nothing g.goes_simple g.goes_simple y.0 (λ look spaced e. e))

@@ -7,21 +7,22 @@ use Rattle.cr_grammar.specs.declared.tree.Tree.{Tree}
 use Rattle.cr_grammar.specs.declared.within.Within.{Within}
 use Rattle.cr_grammar.specs.Count.{nodes, nesting}
 use Rattle.cr_grammar.specs.Forms.{Form, nothing, ◌<|>◌, maybe, many}
-use Rattle.cr_grammar.specs.Wanted.{Wanted}
+use Rattle.cr_grammar.specs.declared.wanted.Wanted.{Wanted}
 use Rattle.cr_grammar.specs.Expressions as ex
 use Rattle.cr_grammar.specs.Grammar as gr
-use Rattle.cr_exact.specs.Reader.{Reader, Test, ◌>>=◌, pure, either, never, seen, tight_seen}
+use Rattle.cr_readers.specs.Reader.{Reader, Test, ◌>>=◌, pure, either, never, seen, tight_seen}
 use Rattle.cr_exact.specs.Exact.{Effort, Any}
 use Rattle.cr_exact.specs.Limits.{Counts, Whole, Rises, known, size_of_all, top_of_all, if_some}
-use Rattle.cr_descent.specs.Goes as g
-use Rattle.cr_descent.specs.Operand.{Operand, whole}
-use Rattle.cr_descent.specs.Bodies as bodies
-use Rattle.cr_descent.specs.Primaries as primaries
-use Rattle.cr_descent.specs.Compounds as compounds
-use Rattle.cr_descent.specs.Links as links
-use Rattle.cr_descent.specs.Operations as operations
-use Rattle.cr_descent.specs.Statements as statements
-use Rattle.cr_descent.specs.Declarations as declarations
+use Rattle.cr_readers.specs.Goes as g
+use Rattle.cr_readers.specs.declared.operand.Operand.{Operand}
+use Rattle.cr_readers.specs.Operand.{whole}
+use Rattle.cr_readers.specs.Bodies as bodies
+use Rattle.cr_readers.specs.Primaries as primaries
+use Rattle.cr_readers.specs.Compounds as compounds
+use Rattle.cr_readers.specs.Links as links
+use Rattle.cr_readers.specs.Operations as operations
+use Rattle.cr_readers.specs.Statements as statements
+use Rattle.cr_readers.specs.Declarations as declarations
 use Rattle.cr_descent.proofs.Operands as operands
 use Rattle.cr_descent.proofs.OperationForms.{or_rest}
 use Rattle.cr_descent.proofs.LimitClaims.{Trees, Parts}
@@ -54,7 +55,7 @@ module _ (effort : Effort) (rec : Wanted → Reader Tree) (T : Wanted → Form T
   DoBlock = (within : Within) → Parts (ex.doblock T within) never (bodies.doblock turns rec within)
 
   abbrev pub MaybeBlock : Type 0
-  MaybeBlock = (within : Within) (free : Bool) → Rises (if_some nodes) (if_some part_height) Any (maybe (ex.block T within free)) (bodies.begins_block turns rec free) (bodies.maybe_block turns rec within free)
+  MaybeBlock = (within : Within) (free : Bool) → Rises (if_some nodes) (if_some part_height) Any (maybe (ex.block T within free)) (g.begins_block free) (bodies.maybe_block turns rec within free)
 
   abbrev pub Plain : Type 0
   Plain = (within : Within) (free : Bool) → ManyParts (ex.plain T within free) never (bodies.plain turns rec within free)

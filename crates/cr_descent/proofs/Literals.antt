@@ -8,31 +8,35 @@ use Rattle.cr_syntax.specs.declared.token.TokenKind.TheVariants as k
 use Rattle.cr_grammar.specs.declared.tree.Tree.{Tree}
 use Rattle.cr_grammar.specs.declared.tree.Tree.TheVariants as tree
 use Rattle.cr_grammar.specs.declared.within.Within.{Within}
-use Rattle.cr_grammar.specs.Forms.{Form, Word}
+use Rattle.cr_grammar.specs.declared.word.Word.{Word}
+use Rattle.cr_grammar.specs.Forms.{Form}
 use Rattle.cr_grammar.specs.Forms as f
-use Rattle.cr_grammar.specs.Wanted.{Wanted, Written, Or}
+use Rattle.cr_grammar.specs.declared.wanted.Wanted.{Wanted}
+use Rattle.cr_grammar.specs.declared.wanted.Wanted.TheVariants.{Written, Or}
 use Rattle.cr_grammar.specs.Laws.{begins_type}
 use Rattle.cr_grammar.specs.Expressions as ex
-use Rattle.cr_exact.specs.Reader.{Reader, Test, seen, same_look, either, never, expect, holder, many, pure, grow, part, ◌>>=◌, ◌>>◌}
-use Rattle.cr_exact.specs.Lists.{optional, unless_closed, separators, listed}
+use Rattle.cr_readers.specs.Reader.{Reader, Test, seen, same_look, either, never, expect, holder, many, pure, grow, part, ◌>>=◌, ◌>>◌}
+use Rattle.cr_readers.specs.Lists.{optional, unless_closed, separators, listed}
 use Rattle.cr_exact.specs.Exact.{Effort, Exact, Any}
-use Rattle.cr_descent.specs.Goes.{goes_type, goes_or, goes_primary}
-use Rattle.cr_descent.specs.Words.{last_text}
-use Rattle.cr_descent.specs.Bodies as bodies
-use Rattle.cr_descent.specs.Primaries as primaries
+use Rattle.cr_readers.specs.Goes.{goes_type, goes_or, goes_primary}
+use Rattle.cr_readers.specs.Words.{last_text}
+use Rattle.cr_readers.specs.Bodies as bodies
+use Rattle.cr_readers.specs.Primaries as primaries
 use Rattle.cr_exact.proofs.TokenTests.{Not, seen_apart, less_seen, Less, look_apart, less_either}
 use Rattle.cr_exact.proofs.Sequence.{exact_bind, exact_pure, exact_map, weaken}
 use Rattle.cr_exact.proofs.Tokens.{exact_word}
 use Rattle.cr_exact.proofs.Forms.{bind_out, bind_in, spelled_held, spelled_seps, spelled_word, spelled_maybe, spelled_many, spelled_none, spelled_nothing, Spelled, spelled_bind}
-use Rattle.cr_exact.proofs.Heads.{NoLine, Halts, led_at, first_tested, led, led_seen, led_bind, LedBy, led_held, led_first, first_bind}
+use Rattle.cr_exact.proofs.Heads.{NoLine, Fails, led_at, first_tested, led, led_seen, led_bind, LedBy, led_held, led_first, first_bind}
 use Rattle.cr_exact.proofs.Follows.{follows_ahead, follows_many, follows_bind, follows_led, follows_nothing, follows_never, Follows}
 use Rattle.cr_exact.proofs.Loops.{exact_many}
 use Rattle.cr_exact.proofs.Nodes.{exact_silent, silent_grow, exact_part}
 use Rattle.cr_exact.proofs.Lists.{exact_separators, exact_optional, exact_listed}
 use Rattle.cr_exact.proofs.Closed.{closed_then, read_then, exact_closed_then, exact_or_closed, empty_or, empty_or_in, exact_or_none}
 use Rattle.cr_descent.proofs.Words as words
+use Rattle.cr_exact.proofs.Moves.{moves_bind, moves_word, advances_bind, advances_pure}
+use Rattle.cr_exact.proofs.Sequence.{never_back}
 use Rattle.cr_descent.proofs.Claims as claims
-use Rattle.cr_descent.proofs.Bodies.{exact_inside, or_halts}
+use Rattle.cr_descent.proofs.Bodies.{exact_inside, or_fails}
 
 -- What ends a primary ends a type.
 type_less : (free : Bool) → Less goes_type (goes_primary free)
@@ -43,7 +47,7 @@ type_less free other spaced e = e
 
 -- ---- literals
 
-module _ (effort : Effort) (rec : Wanted → Reader Tree) (S T : Wanted → Form Tree) (given : claims.Given effort rec S T) (within : Within) (free : Bool) where
+module _ {effort : Effort} {rec : Wanted → Reader Tree} {S T : Wanted → Form Tree} (given : claims.Given effort rec S T) (within : Within) (free : Bool) where
   abbrev turns : ℕ
   turns = effort.turns
 
@@ -107,6 +111,7 @@ module _ (effort : Effort) (rec : Wanted → Reader Tree) (S T : Wanted → Form
   exact_parts =
       exact_many effort (seen l.TextMiddle) (goes_or free) (seen_apart l.TextMiddle (goes_or free) (λ spaced. refl)) (ex.part_behind S within free) (ex.part_behind T within free)
       (primaries.part_behind turns rec within free) (weaken _ exact_part_behind) (λ w x rest c. led_seen l.TextMiddle w rest (led_middle w x c))
+      (moves_bind (words.middle_moves) (λ text. advances_bind (never_back exact_inserted) (λ value. advances_pure _)))
 
   abbrev pub insertions_of : Word → Tree → List (Tree × List ℕ) → Word → Tree
   insertions_of first value more last =
@@ -168,9 +173,10 @@ module _ (effort : Effort) (rec : Wanted → Reader Tree) (S T : Wanted → Form
   exact_element : Exact effort Any (f.maybe (element_of S)) (f.maybe (element_of T)) goes_of (optional (seen l.Of) (expect l.Of >> part (rec (Written true))))
   exact_element =
       exact_optional effort (element_of S) (element_of T) goes_type (expect l.Of >> part (rec (Written true)))
-      (exact_bind (λ _. S (Written true)) (λ _. T (Written true)) goes_type _ (exact_word effort k.Of never)
+      (exact_bind (λ _. S (Written true)) (λ _. T (Written true)) goes_type _ (exact_word effort (k.Plain l.Of) never)
       (λ _. exact_part (rec (Written true)) (given.exact (Written true))) (λ _. given.some (Written true)) (λ _. follows_never (T (Written true)) goes_type))
       (seen l.Of) (λ w x rest c. led_seen l.Of w rest (led_at l.Of w c.0 c.1 c.2 c.3 c.4))
+      (moves_bind (moves_word l.Of) (λ _. never_back (exact_part (rec (Written true)) (given.exact (Written true)))))
 
   abbrev elements_behind : (Wanted → Form Tree) → ℕ → List Tree → Form Tree
   elements_behind Q at elements = f.◌>>=◌ (f.maybe (element_of Q)) (λ element. f.nothing (tree.Array at elements element))
@@ -197,19 +203,19 @@ module _ (effort : Effort) (rec : Wanted → Reader Tree) (S T : Wanted → Form
       exact_closed_then (f.or_none (ex.inside S within free)) (f.or_none (ex.inside T within free)) (f.word l.CloseBracket) (elements_behind S at) (elements_behind T at) goes
       (separators turns) (unless_closed l.CloseBracket (bodies.inside turns rec within)) (expect l.CloseBracket)
       (λ elements. optional (seen l.Of) (expect l.Of >> part (rec (Written true))) >>= λ element. pure (tree.Array at elements element))
-      (exact_or_none effort (ex.inside S within free) (ex.inside T within free) goes_inside (bodies.inside turns rec within) (exact_inside effort rec S T given within free)
-      (first_bind false (seen l.Newline) (T (Or within true)) _ (or_halts effort rec S T given within true l.Newline refl)) (λ spaced. refl)
-      k.CloseBracket (λ spaced. refl) (λ e. cc) (first_bind false (seen l.CloseBracket) (T (Or within true)) _ (or_halts effort rec S T given within true l.CloseBracket refl)))
+      (exact_or_none effort (ex.inside S within free) (ex.inside T within free) goes_inside (bodies.inside turns rec within) (exact_inside given within free)
+      (first_bind false (seen l.Newline) (T (Or within true)) _ (or_fails given within true l.Newline refl)) (λ spaced. refl)
+      (k.Plain l.CloseBracket) (λ spaced. refl) (λ e. cc) (first_bind false (seen l.CloseBracket) (T (Or within true)) _ (or_fails given within true l.CloseBracket refl)))
       (exact_elements_behind at) (elements_some at)
 
   array_some : (at : ℕ) → Spelled (array_behind S at)
   array_some at =
       spelled_bind spelled_seps (λ _. spelled_bind (spelled_none _) (λ elements. spelled_bind spelled_seps (λ _.
-      spelled_bind (spelled_word k.CloseBracket) (λ _. elements_some at elements))))
+      spelled_bind (spelled_word (k.Plain l.CloseBracket)) (λ _. elements_some at elements))))
 
   pub exact_array : Exact effort Any (ex.array S within free) (ex.array T within free) goes (primaries.array turns rec within free)
   exact_array =
-      exact_bind (array_behind S) (array_behind T) goes _ (exact_word effort k.OpenBracket never)
+      exact_bind (array_behind S) (array_behind T) goes _ (exact_word effort (k.Plain l.OpenBracket) never)
       (λ at. exact_silent (grow at) (silent_grow at) _ (exact_array_behind at))
       array_some
       (λ at. follows_never (array_behind T at) goes)
@@ -240,14 +246,14 @@ module _ (effort : Effort) (rec : Wanted → Reader Tree) (S T : Wanted → Form
     exact_arrow key =
         exact_map (arrow_behind R key) (arrow_behind C key)
         (bind_in (f.word l.Arrow) (λ _. f.seps) (λ _. value_behind R key)) (bind_out (f.word l.Arrow) (λ _. f.seps) (λ _. value_behind C key))
-        (exact_bind (λ _. f.◌>>◌ f.seps (value_behind R key)) (λ _. f.◌>>◌ f.seps (value_behind C key)) g _ (exact_word effort k.Arrow never)
+        (exact_bind (λ _. f.◌>>◌ f.seps (value_behind R key)) (λ _. f.◌>>◌ f.seps (value_behind C key)) g _ (exact_word effort (k.Plain l.Arrow) never)
         (λ _. exact_bind (λ _. value_behind R key) (λ _. value_behind C key) g _ (exact_separators effort) (λ _. exact_value key) (λ _. value_some key)
         (λ _. follows_ahead (seen l.Newline) g (value_behind C key) (first_bind false (seen l.Newline) C _ ahead)))
         (λ _. spelled_bind spelled_seps (λ _. value_some key))
         (λ _. follows_never (f.◌>>◌ f.seps (value_behind C key)) g))
 
     pair_end_some : (key : Tree) → Spelled (arrow_behind R key)
-    pair_end_some key = spelled_bind (spelled_bind (spelled_word k.Arrow) (λ _. spelled_seps)) (λ _. value_some key)
+    pair_end_some key = spelled_bind (spelled_bind (spelled_word (k.Plain l.Arrow)) (λ _. spelled_seps)) (λ _. value_some key)
 
     pub exact_pair : Not l.Arrow g → Exact effort Any (ex.pair S within free R) (ex.pair T within free C) g (primaries.pair turns rec within free p)
     exact_pair stops =
@@ -257,7 +263,7 @@ module _ (effort : Effort) (rec : Wanted → Reader Tree) (S T : Wanted → Form
 
   pub pair_some : (R : Form Tree) → Spelled R → Spelled (ex.pair S within free R)
   pair_some R some =
-      spelled_bind some (λ key. spelled_bind (spelled_bind (spelled_word k.Arrow) (λ _. spelled_seps)) (λ _. spelled_bind some (λ value. spelled_nothing (pair_of key value))))
+      spelled_bind some (λ key. spelled_bind (spelled_bind (spelled_word (k.Plain l.Arrow)) (λ _. spelled_seps)) (λ _. spelled_bind some (λ value. spelled_nothing (pair_of key value))))
 
   abbrev goes_pairs : Test
   goes_pairs = either (seen l.Comma) (goes_or free)
@@ -270,8 +276,8 @@ module _ (effort : Effort) (rec : Wanted → Reader Tree) (S T : Wanted → Form
       let first = pair_some (S (Or within free)) (given.some (Or within free)) in
       exact_listed effort (ex.pair S within free (S (Or within free))) (ex.pair T within free (T (Or within free))) (goes_or free)
       (primaries.pair turns rec within free (part (rec (Or within free))))
-      (exact_pair (S (Or within free)) (T (Or within free)) (goes_or free) (part (rec (Or within free))) exact_inserted (or_halts effort rec S T given within free l.Newline refl) (given.some (Or within free)) (λ spaced. refl))
-      (first_bind false (seen l.Newline) (T (Or within free)) _ (or_halts effort rec S T given within free l.Newline refl)) first.0 first.1 first.2
+      (exact_pair (S (Or within free)) (T (Or within free)) (goes_or free) (part (rec (Or within free))) exact_inserted (or_fails given within free l.Newline refl) (given.some (Or within free)) (λ spaced. refl))
+      (first_bind false (seen l.Newline) (T (Or within free)) _ (or_fails given within free l.Newline refl)) first.0 first.1 first.2
       (seen_apart l.Comma (goes_or free) (λ spaced. refl))
 
   abbrev entry_of : (Wanted → Form Tree) → Form Tree
@@ -280,14 +286,18 @@ module _ (effort : Effort) (rec : Wanted → Reader Tree) (S T : Wanted → Form
   abbrev read_entry : Reader (Option Tree)
   read_entry = optional (seen l.Of) (expect l.Of >> primaries.pair turns rec within free (part (rec (Written true))))
 
+  exact_entry_pair : Exact effort Any (ex.pair S within free (S (Written true))) (ex.pair T within free (T (Written true))) goes_type (primaries.pair turns rec within free (part (rec (Written true))))
+  exact_entry_pair =
+      exact_pair (S (Written true)) (T (Written true)) goes_type (part (rec (Written true))) (exact_part (rec (Written true)) (given.exact (Written true)))
+      (first_tested false begins_type (seen l.Newline) (T (Written true)) (look_apart begins_type l.Newline refl) (given.type_begins true)) (given.some (Written true)) (λ spaced. refl)
+
   exact_entry : Exact effort Any (f.maybe (entry_of S)) (f.maybe (entry_of T)) goes_of read_entry
   exact_entry =
       exact_optional effort (entry_of S) (entry_of T) goes_type (expect l.Of >> primaries.pair turns rec within free (part (rec (Written true))))
-      (exact_bind (λ _. ex.pair S within free (S (Written true))) (λ _. ex.pair T within free (T (Written true))) goes_type _ (exact_word effort k.Of never)
-      (λ _. exact_pair (S (Written true)) (T (Written true)) goes_type (part (rec (Written true))) (exact_part (rec (Written true)) (given.exact (Written true)))
-      (first_tested false begins_type (seen l.Newline) (T (Written true)) (look_apart begins_type l.Newline refl) (given.type_begins true)) (given.some (Written true)) (λ spaced. refl))
+      (exact_bind (λ _. ex.pair S within free (S (Written true))) (λ _. ex.pair T within free (T (Written true))) goes_type _ (exact_word effort (k.Plain l.Of) never)
+      (λ _. exact_entry_pair)
       (λ _. pair_some (S (Written true)) (given.some (Written true))) (λ _. follows_never (ex.pair T within free (T (Written true))) goes_type))
-      (seen l.Of) (λ w x rest c. led_seen l.Of w rest (led_at l.Of w c.0 c.1 c.2 c.3 c.4))
+      (seen l.Of) (λ w x rest c. led_seen l.Of w rest (led_at l.Of w c.0 c.1 c.2 c.3 c.4)) (moves_bind (moves_word l.Of) (λ _. never_back exact_entry_pair))
 
   abbrev hash_end : (Wanted → Form Tree) → ℕ → List Tree → Form Tree
   hash_end Q at entries = f.◌>>◌ (f.word l.CloseBrace) (f.◌>>=◌ (f.maybe (entry_of Q)) (λ entry. f.nothing (tree.Hash at entries entry)))
@@ -296,12 +306,12 @@ module _ (effort : Effort) (rec : Wanted → Reader Tree) (S T : Wanted → Form
   read_hash_end at entries = expect l.CloseBrace >> (read_entry >>= λ entry. pure (tree.Hash at entries entry))
 
   hash_end_some : (at : ℕ) (entries : List Tree) → Spelled (hash_end S at entries)
-  hash_end_some at entries = spelled_bind (spelled_word k.CloseBrace) (λ _. spelled_bind (spelled_maybe _) (λ entry. spelled_nothing (tree.Hash at entries entry)))
+  hash_end_some at entries = spelled_bind (spelled_word (k.Plain l.CloseBrace)) (λ _. spelled_bind (spelled_maybe _) (λ entry. spelled_nothing (tree.Hash at entries entry)))
 
   exact_hash_end : (at : ℕ) (entries : List Tree) → Exact effort Any (hash_end S at entries) (hash_end T at entries) goes (read_hash_end at entries)
   exact_hash_end at entries =
       let hash_of : Option Tree → Form Tree = λ entry. f.nothing (tree.Hash at entries entry) in
-      exact_bind (λ _. f.◌>>=◌ (f.maybe (entry_of S)) hash_of) (λ _. f.◌>>=◌ (f.maybe (entry_of T)) hash_of) goes _ (exact_word effort k.CloseBrace never)
+      exact_bind (λ _. f.◌>>=◌ (f.maybe (entry_of S)) hash_of) (λ _. f.◌>>=◌ (f.maybe (entry_of T)) hash_of) goes _ (exact_word effort (k.Plain l.CloseBrace) never)
       (λ _. exact_bind hash_of hash_of goes _ exact_entry
       (λ entry. exact_pure effort (tree.Hash at entries entry) goes)
       (λ entry. spelled_nothing (tree.Hash at entries entry))
@@ -316,17 +326,17 @@ module _ (effort : Effort) (rec : Wanted → Reader Tree) (S T : Wanted → Form
       (unless_closed l.CloseBrace (listed turns (primaries.pair turns rec within free (part (rec (Or within free))))) >>= read_hash_end at)
   unfolding same_look
   exact_entries at =
-      exact_or_closed k.CloseBrace (pairs_of S) (pairs_of T) goes_pairs _ (hash_end S at) (hash_end T at) goes (read_hash_end at)
+      exact_or_closed (k.Plain l.CloseBrace) (pairs_of S) (pairs_of T) goes_pairs _ (hash_end S at) (hash_end T at) goes (read_hash_end at)
       exact_pairs (exact_hash_end at) (hash_end_some at) (λ entries. led l.CloseBrace _) (λ spaced. refl)
-      (first_bind false (seen l.CloseBrace) (ex.pair T within free (T (Or within free))) _ (first_bind false (seen l.CloseBrace) (T (Or within free)) _ (or_halts effort rec S T given within free l.CloseBrace refl)))
+      (first_bind false (seen l.CloseBrace) (ex.pair T within free (T (Or within free))) _ (first_bind false (seen l.CloseBrace) (T (Or within free)) _ (or_fails given within free l.CloseBrace refl)))
 
   -- Entries, or the brace that closes them, begin with no separator.
-  once_ahead : (at : ℕ) → Halts (seen l.Newline) (empty_or (pairs_of T) (hash_end T at))
+  once_ahead : (at : ℕ) → Fails (seen l.Newline) (empty_or (pairs_of T) (hash_end T at))
   unfolding same_look
   once_ahead at w x rest (inl c) = led_first false l.CloseBrace (seen l.Newline) (λ spaced. refl) w rest (led_at l.CloseBrace w c.0 c.1 c.2 c.3 c.4)
   once_ahead at w x rest (inr c) =
       first_bind false (seen l.Newline) (pairs_of T) (hash_end T at)
-      (first_bind false (seen l.Newline) (ex.pair T within free (T (Or within free))) _ (first_bind false (seen l.Newline) (T (Or within free)) _ (or_halts effort rec S T given within free l.Newline refl))) w x rest c
+      (first_bind false (seen l.Newline) (ex.pair T within free (T (Or within free))) _ (first_bind false (seen l.Newline) (T (Or within free)) _ (or_fails given within free l.Newline refl))) w x rest c
 
   pub entries_follow : (at : ℕ) → Follows (seen l.Newline) (entries_of T at) goes
   entries_follow at w x rest c stop = once_ahead at w x rest (empty_or_in (pairs_of T) (hash_end T at) w x c)
@@ -339,7 +349,7 @@ module _ (effort : Effort) (rec : Wanted → Reader Tree) (S T : Wanted → Form
 
   pub exact_hash : Exact effort Any (ex.hash S within free) (ex.hash T within free) goes (primaries.hash turns rec within free)
   exact_hash =
-      exact_bind (hash_behind S) (hash_behind T) goes _ (exact_word effort k.OpenBrace never)
+      exact_bind (hash_behind S) (hash_behind T) goes _ (exact_word effort (k.Plain l.OpenBrace) never)
       (λ at. exact_silent (grow at) (silent_grow at) _
       (exact_bind (λ _. entries_of S at) (λ _. entries_of T at) goes _ (exact_separators effort) (λ _. exact_entries at) (λ _. entries_some at) (λ _. entries_follow at)))
       (λ at. spelled_bind spelled_seps (λ _. entries_some at))

@@ -6,9 +6,13 @@ use Rattle.cr_grammar.specs.declared.tree.Tree.{Tree}
 use Rattle.cr_grammar.specs.declared.tree.Tree.TheVariants as tree
 use Rattle.cr_grammar.specs.declared.within.Within.{Within}
 use Rattle.cr_grammar.specs.Forms.{Form, nothing, ◌>>=◌, ◌<|>◌, where_true, maybe, or_none, many, repeated, word, ident, instance_variable, tight, parenthesized, ◌>>◌}
-use Rattle.cr_grammar.specs.Wanted.{Wanted, Stmt, in_object}
+use Rattle.cr_grammar.specs.declared.wanted.Wanted.{Wanted}
+use Rattle.cr_grammar.specs.declared.wanted.Wanted.TheVariants.{Stmt}
+use Rattle.cr_grammar.specs.Wanted.{in_object}
 use Rattle.cr_grammar.specs.Expressions as ex
-use Rattle.cr_descent.specs.Operand.{Operand, Variable, Whole, whole, named, linked, indexed, yielded, above}
+use Rattle.cr_readers.specs.declared.operand.Operand.{Operand}
+use Rattle.cr_readers.specs.declared.operand.Operand.TheVariants.{Variable, Whole}
+use Rattle.cr_readers.specs.Operand.{whole, named, linked, indexed, yielded, above}
 use Rattle.cr_exact.proofs.Tokens.{Led}
 
 module _ (S : Wanted → Form Tree) (within : Within) (free : Bool) where

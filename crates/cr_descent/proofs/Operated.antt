@@ -1,5 +1,6 @@
 -- What follows a first operand begins with an operator, or is nothing.
 use Rattle.std.proofs.Common.{◌≡◌, zero, suc, Bool, true, false, ◌&&◌, ◌||◌, List, [], ◌∷◌, ◌++◌, ◌⊎◌, inl, inr, refl, sym, ap, subst, ◌∙◌}
+use Rattle.std.proofs.lemmas.Bool.{and_right, or_from}
 use Rattle.std.specs.Prelude.{not, IsTrue, Option, Some, is_some}
 use Rattle.cr_syntax.specs.declared.look.TokenLook.{TokenLook}
 use Rattle.cr_syntax.specs.declared.look.TokenLook.TheVariants as l
@@ -10,11 +11,11 @@ use Rattle.cr_grammar.specs.declared.tree.Tree.{Tree}
 use Rattle.cr_grammar.specs.declared.within.Within.{Within}
 use Rattle.cr_grammar.specs.Forms.{Form, ◌>>=◌}
 use Rattle.cr_grammar.specs.Operators as o
-use Rattle.cr_grammar.specs.Wanted.{Wanted}
+use Rattle.cr_grammar.specs.declared.wanted.Wanted.{Wanted}
 use Rattle.cr_grammar.specs.Expressions as ex
-use Rattle.cr_exact.specs.Reader.{Test, passes}
-use Rattle.cr_descent.specs.Goes.{goes_operand}
-use Rattle.cr_descent.specs.Statements.{is_assigning}
+use Rattle.cr_readers.specs.Reader.{Test, passes}
+use Rattle.cr_readers.specs.Goes.{goes_operand}
+use Rattle.cr_readers.specs.Statements.{is_assigning}
 use Rattle.cr_exact.proofs.Forms.{Real, append_none}
 use Rattle.cr_descent.proofs.OperationForms.{chain, at_most_one, prod_rest, sum_rest, shift_rest, cmp_rest, and_rest, or_rest, level_real, prod_splits, sum_splits, shift_splits, cmp_splits, and_splits, first_real, operator_out}
 use Rattle.cr_exact.proofs.TwoTokens.{Settled, settled_same}
@@ -73,8 +74,7 @@ not_both true false is e = refl
 not_both false sign is e = absurd cc
 
 pub neither : (a b c : Bool) → b ≡ false → c ≡ false → (a && b) || c ≡ false
-neither true b c e f = rw (e, f) refl
-neither false b c e f = f
+neither a b c e f = or_from (a && b) c (and_right a b e) f
 
 pub passes_front : (test : Test) (a b : List Token) → Settled a → passes test (a ++ b) ≡ passes test a
 passes_front test [] b is = absurd is

@@ -12,12 +12,13 @@ use Rattle.cr_grammar.specs.declared.tree.Tree.TheVariants as tree
 use Rattle.cr_grammar.specs.declared.within.Within.{Within}
 use Rattle.cr_grammar.specs.Forms.{Form, nothing, ◌>>=◌, ◌>>◌, ◌<|>◌, passing, repeated, repeated_of, one, with_last, last_look, seps}
 use Rattle.cr_grammar.specs.Operators as o
-use Rattle.cr_grammar.specs.Wanted.{Wanted}
+use Rattle.cr_grammar.specs.declared.wanted.Wanted.{Wanted}
 use Rattle.cr_grammar.specs.Laws.{first_is, begins_or}
 use Rattle.cr_grammar.specs.Expressions as ex
 use Rattle.cr_grammar.proofs.First.{behind, led, postfix_first}
-use Rattle.cr_exact.specs.Reader.{passes}
-use Rattle.cr_descent.specs.Operations.{Operator, operator_of, is_spaced}
+use Rattle.cr_readers.specs.Reader.{passes}
+use Rattle.cr_readers.specs.declared.operand.Operator.{Operator}
+use Rattle.cr_readers.specs.Operations.{operator_of, is_spaced}
 use Rattle.cr_exact.proofs.Tokens.{some_one}
 use Rattle.cr_exact.proofs.Forms.{Included, bind_out, bind_in, included_bind, made_out, made_in, Real, last_behind, begins_some, append_none}
 
@@ -224,11 +225,11 @@ sign_in name t [] some h = absurd (some refl)
 sign_in name t (u ∷ v) some h = next_spaced name _ t.spaced u.spaced h
 
 pub operator_is : (t : Token) (found : Option Binary) (x : Operator) → operator_of t found ≡ Some x
-    → (found ≡ Some x.operator) × (x.at ≡ t.span.first) × (x.sign ≡ (o.is_minus (look_of t.kind) && t.spaced))
+    → (found ≡ Some x.operator) × (x.at ≡ t.span.first) × (x.spaced_minus ≡ (o.is_minus (look_of t.kind) && t.spaced))
 operator_is t None x e = absurd cc
 operator_is t (Some operator) x e =
     let same = some_one _ x e in
-    (ap (λ (v : Operator). Some v.operator) same, sym (ap (λ (v : Operator). v.at) same), sym (ap (λ (v : Operator). v.sign) same))
+    (ap (λ (v : Operator). Some v.operator) same, sym (ap (λ (v : Operator). v.at) same), sym (ap (λ (v : Operator). v.spaced_minus) same))
 
 -- an operator, as it is read
 abbrev pub found_operator : (TokenLook → Option Binary) → Form Operator
@@ -244,7 +245,7 @@ module _ (R : Form Tree) (x : Ended) where
   operand_behind found = seps >> operand_of found.at found.operator
 
   abbrev pub operation_read : (TokenLook → Option Binary) → Form Ended
-  operation_read table = found_operator table >>= λ found. guarded (o.is_name x.1 && found.sign) (operand_behind found)
+  operation_read table = found_operator table >>= λ found. guarded (o.is_name x.1 && found.spaced_minus) (operand_behind found)
 
   module _ (real : Real R) where
     operand_real : (at : ℕ) (operator : Binary) → Real (operand_of at operator)
@@ -274,17 +275,17 @@ module _ (S : Wanted → Form Tree) (within : Within) (free : Bool) (table : Tok
         let t = d.0 in
         let v = d.1 ++ c.1 in
         let whole : w ≡ t ∷ v = c.3 ∙ ap (λ (r : List Token). r ++ c.1) d.2 in
-        let found : Operator = record { at = t.span.first; operator = c.2.1; sign = o.is_minus (look_of t.kind) && t.spaced } in
+        let found : Operator = record { at = t.span.first; operator = c.2.1; spaced_minus = o.is_minus (look_of t.kind) && t.spaced } in
         let rest : operand_of R x found.at found.operator c.1 u = subst (λ at. operand_of R x at c.2.1 c.1 u) d.4 c.5 in
         let behind : operand_behind R x found v u = (d.1, c.1, tt, refl, d.5, rest) in
         let sign = sign_out (o.is_name x.1) t v (λ e. behind_real R x real found v u behind e) (subst (λ r. IsTrue (o.is_operation x.1 r)) whole is) in
-        (t ∷ [], v, found, whole, (t, refl, ap (operator_of t) d.3), guard_in (o.is_name x.1 && found.sign) (operand_behind R x found) v u sign behind)
+        (t ∷ [], v, found, whole, (t, refl, ap (operator_of t) d.3), guard_in (o.is_name x.1 && found.spaced_minus) (operand_behind R x found) v u sign behind)
 
     pub operation_in : Included (operation_read R x table) (ex.operation S within free table R x)
     operation_in w u (a, v, found, e, (t, one_, is), c) =
         let whole : w ≡ t ∷ v = e ∙ ap (λ (r : List Token). r ++ v) one_ in
         let p = operator_is t (table (look_of t.kind)) found is in
-        let g = guard_out (o.is_name x.1 && found.sign) (operand_behind R x found) v u c in
+        let g = guard_out (o.is_name x.1 && found.spaced_minus) (operand_behind R x found) v u c in
         let d = g.0 in
         let sign = sign_in (o.is_name x.1) t v (λ e. behind_real R x real found v u d e) (λ b. g.1 (ap (λ s. o.is_name x.1 && s) p.2 ∙ b)) in (
           subst (λ r. IsTrue (o.is_operation x.1 r)) (sym whole) sign,

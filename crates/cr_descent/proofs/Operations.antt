@@ -1,5 +1,7 @@
 -- Operators and their operands are read exactly.
+use Rattle.std.proofs.lemmas.Bool.{both_ways}
 use Rattle.std.proofs.Common.{◌≡◌, ℕ, Bool, true, false, ◌&&◌, cond, List, [], ◌∷◌, ◌++◌, inl, inr, refl, sym, ap, subst, ◌∙◌, append_assoc}
+use Rattle.std.proofs.lemmas.Bool.{or_parts}
 use Rattle.std.specs.Prelude.{Option, Some, is_some}
 use Rattle.cr_syntax.specs.declared.look.TokenLook.{TokenLook}
 use Rattle.cr_syntax.specs.declared.look.TokenLook.TheVariants as l
@@ -16,24 +18,26 @@ use Rattle.cr_grammar.specs.declared.within.Within.{Within}
 use Rattle.cr_grammar.specs.Forms.{Form, nothing, ◌<|>◌, repeated_of, with_last, last_look}
 use Rattle.cr_grammar.specs.Forms as f
 use Rattle.cr_grammar.specs.Operators as o
-use Rattle.cr_grammar.specs.Wanted.{Wanted, Unary}
+use Rattle.cr_grammar.specs.declared.wanted.Wanted.{Wanted}
+use Rattle.cr_grammar.specs.declared.wanted.Wanted.TheVariants.{Unary}
 use Rattle.cr_grammar.specs.Laws.{first_is, begins_or}
 use Rattle.cr_grammar.specs.Expressions as ex
-use Rattle.cr_exact.specs.Reader.{State, Reader, and_then, ◌>>=◌, ◌>>◌, pure, refuse, Test, passes, look_at, seen, either, never, choose, only, repeated, grow, wrap, part}
-use Rattle.cr_exact.specs.Reader as r
-use Rattle.cr_exact.specs.Lists.{separators}
+use Rattle.cr_readers.specs.Reader.{State, Reader, and_then, ◌>>=◌, ◌>>◌, pure, refuse, Test, passes, look_at, seen, either, never, choose, only, repeated, grow, wrap, part}
+use Rattle.cr_readers.specs.Reader as r
+use Rattle.cr_readers.specs.Lists.{separators}
 use Rattle.cr_exact.specs.Exact.{Stops, Effort, Exact, Any}
-use Rattle.cr_descent.specs.Goes as g
-use Rattle.cr_descent.specs.Operand.{whole}
-use Rattle.cr_descent.specs.Primaries as primaries
-use Rattle.cr_descent.specs.Links as links
-use Rattle.cr_descent.specs.Operations as operations
-use Rattle.cr_descent.specs.Operations.{Operator, operator_of}
-use Rattle.cr_exact.proofs.TokenTests.{either_right, Apart, apart_stops, stops_left, stops_right, never_stops, look_apart, not_seen}
+use Rattle.cr_readers.specs.Goes as g
+use Rattle.cr_readers.specs.Operand.{whole}
+use Rattle.cr_readers.specs.Primaries as primaries
+use Rattle.cr_readers.specs.Links as links
+use Rattle.cr_readers.specs.Operations as operations
+use Rattle.cr_readers.specs.declared.operand.Operator.{Operator}
+use Rattle.cr_readers.specs.Operations.{operator_of}
+use Rattle.cr_exact.proofs.TokenTests.{Apart, apart_stops, stops_left, stops_right, never_stops, look_apart, not_seen}
 use Rattle.cr_exact.proofs.Sequence.{exact_bind, exact_pure, exact_map, exact_goes, weaken}
 use Rattle.cr_exact.proofs.Tokens.{Passing, exact_take, exact_word, exact_choose, exact_only, a_token, never_begins}
 use Rattle.cr_exact.proofs.Forms.{begins_some, bind_in, bind_out, made_in, made_out, Real, Included}
-use Rattle.cr_exact.proofs.Heads.{Heads, led_heads, led_first, led_at, tested, other_first, passes_more, repeated_stop, heads_halts}
+use Rattle.cr_exact.proofs.Heads.{Heads, led_heads, led_first, led_at, tested, other_first, passes_more, repeated_stop, heads_fails}
 use Rattle.cr_exact.proofs.Loops.{exact_repeated}
 use Rattle.cr_exact.proofs.Nodes.{exact_silent, exact_part, exact_last, silent_grow, silent_wrap}
 use Rattle.cr_exact.proofs.Lists.{exact_separators, exact_passing}
@@ -41,6 +45,9 @@ use Rattle.cr_exact.proofs.Closed.{exact_same}
 use Rattle.cr_descent.proofs.Links.{exact_postfix_tree}
 use Rattle.cr_descent.proofs.OperationForms as forms
 use Rattle.cr_descent.proofs.OperationForms.{Ended}
+use Rattle.std.specs.Prelude.{None}
+use Rattle.cr_exact.proofs.Moves.{Moves, moves_bind, moves_take, advances_next}
+use Rattle.cr_exact.proofs.Sequence.{never_back}
 use Rattle.cr_descent.proofs.Claims as claims
 
 -- ---- first tokens
@@ -89,7 +96,7 @@ pub apart_or : (free : Bool) → Apart (g.is_operator o.or_operator) (g.goes_and
 apart_or free l.OrOr spaced is = refl
 apart_or free other spaced is = absurd cc
 
--- ---- only where a sign may stand
+-- ---- only where no sign stands
 
 -- nothing, only where the test is passed, and then the rest
 pub only_then : {A : Type 0} (b : Bool) (p : Reader A) (s : State) → let none : Reader (Unit {0}) = pure tt in and_then (cond b none refuse s) (λ _. p) ≡ cond b p refuse s
@@ -106,7 +113,11 @@ module _ {effort : Effort} {A : Type 0} {R C : Form A} {g : Test} {p : Reader A}
       (exact_passing (Passing operations.is_spaced) operations.is_spaced (λ ts is. is) real w0 x0 some spaced ep)
       (λ w x rest c. passes_more operations.is_spaced w rest c.0) w0 x0 (spaced, some))
 
-module _ (effort : Effort) (rec : Wanted → Reader Tree) (S T : Wanted → Form Tree) (given : claims.Given effort rec S T) where
+operator_read : (t : Token) (found : Option Binary) → is_some found ≡ true → (x : Operator) × (operator_of t found ≡ Some x)
+operator_read t None is = absurd cc
+operator_read t (Some found) is = (_, refl)
+
+module _ {effort : Effort} {rec : Wanted → Reader Tree} {S T : Wanted → Form Tree} (given : claims.Given effort rec S T) where
   -- ---- `!` and `-` before an operand
 
   module _ (within : Within) (free : Bool) where
@@ -132,15 +143,15 @@ module _ (effort : Effort) (rec : Wanted → Reader Tree) (S T : Wanted → Form
     -- the postfix, where its first token looks so
     abbrev postfix_by : TokenLook → Reader Tree
     postfix_by found s =
-        and_then (and_then (primaries.primary_by effort.turns rec within free found s) (repeated (links.is_link effort.turns rec within free) (links.link effort.turns rec within free) effort.turns))
+        and_then (and_then (primaries.primary_by effort.turns rec within free found s) (repeated (g.is_link) (links.link effort.turns rec within free) effort.turns))
         (λ x. pure (whole x))
 
     -- A postfix begins with neither `!` nor `-`.
     not_bang : (w : List Token) (x : Tree) → ex.postfix T within free w x → look_at w ≡ l.Bang → ⊥
-    not_bang = never_begins postfix (exact_postfix_tree effort rec S T given within free) l.Bang (λ s is. ap (λ found. postfix_by found s) is)
+    not_bang = never_begins postfix (exact_postfix_tree given within free) l.Bang (λ s is. ap (λ found. postfix_by found s) is)
 
     pub not_minus : (w : List Token) (x : Tree) → ex.postfix T within free w x → look_at w ≡ l.Minus → ⊥
-    not_minus = never_begins postfix (exact_postfix_tree effort rec S T given within free) l.Minus (λ s is. ap (λ found. postfix_by found s) is)
+    not_minus = never_begins postfix (exact_postfix_tree given within free) l.Minus (λ s is. ap (λ found. postfix_by found s) is)
 
     pub postfix_some : (w : List Token) (x : Tree) → ex.postfix T within free w x → w ≡ [] → ⊥
     postfix_some w x c = forms.first_real T within free w x (inr (inr c))
@@ -153,9 +164,10 @@ module _ (effort : Effort) (rec : Wanted → Reader Tree) (S T : Wanted → Form
     exact_signed =
         exact_choose effort (seen l.Minus) (ex.unary_of S within free l.Minus negate) (ex.unary_of T within free l.Minus negate) (ex.postfix S within free) (ex.postfix T within free)
         (g.goes_operand free) (operations.unary_of effort.turns rec within free l.Minus negate) postfix
-        (weaken _ (exact_prefix k.Minus negate)) (weaken _ (exact_postfix_tree effort rec S T given within free))
+        (weaken _ (exact_prefix (k.Plain l.Minus) negate)) (weaken _ (exact_postfix_tree given within free))
         (led_heads l.Minus _)
         (λ w x rest d stop. other_first l.Minus w rest (postfix_some w x d) (not_minus w x d))
+        (λ x s d clear is. absurd (postfix_some [] x d refl))
 
     pub other_than_bang : (w : List Token) (x : Tree) (rest : List Token) → (ex.unary_of T within free l.Minus negate <|> ex.postfix T within free) w x → Stops (seen l.Bang) (w ++ rest)
     other_than_bang w x rest (inl c) =
@@ -169,16 +181,17 @@ module _ (effort : Effort) (rec : Wanted → Reader Tree) (S T : Wanted → Form
       (ex.unary_of S within free l.Minus (negate within free) <|> ex.postfix S within free) (ex.unary_of T within free l.Minus (negate within free) <|> ex.postfix T within free)
       (g.goes_operand free) (operations.unary_of effort.turns rec within free l.Bang not_)
       (choose (seen l.Minus) (operations.unary_of effort.turns rec within free l.Minus (negate within free)) (postfix within free))
-      (weaken _ (exact_prefix within free k.Bang not_)) (weaken _ (exact_signed within free))
+      (weaken _ (exact_prefix within free (k.Plain l.Bang) not_)) (weaken _ (exact_signed within free))
       (led_heads l.Bang _)
       (λ w x rest d stop. other_than_bang within free w x rest d)
+      (λ x s d clear is. absurd (both_ways _ (other_than_bang within free [] x s.rest d) is))
 
   -- ---- an operator and its operand
 
   module _ (within : Within) (free : Bool) where
     -- A spaced `nil` is an operand of each level.
     abbrev a_nil : List Token
-    a_nil = record { kind = k.Nil; span = record { first = 0; past = 0 }; spaced = true } ∷ []
+    a_nil = record { kind = (k.Plain l.Nil); span = record { first = 0; past = 0 }; spaced = true } ∷ []
 
     abbrev nil_ended : Ended
     nil_ended = (tree.Nil 0, l.Nil)
@@ -211,18 +224,23 @@ module _ (effort : Effort) (rec : Wanted → Reader Tree) (S T : Wanted → Form
           (λ _. (a_nil, node found nil_ended, made_in (with_last (L S)) (node found) a_nil nil_ended (operand.some, refl)))
           (λ _ b z rest d stop. let n = made_out (with_last (L T)) (node found) b z d in tested false (begins_or within) (seen l.Newline) (look_apart (begins_or within) l.Newline refl) b rest (operand.begins b n.0.0 n.1.0))
 
+      guarded_exact : (found : Operator) → Exact effort Any (forms.guarded (o.is_name x.1 && found.spaced_minus) (behind S found)) (forms.guarded (o.is_name x.1 && found.spaced_minus) (behind T found)) h
+          (operations.no_sign (o.is_name x.1 && found.spaced_minus) >> (separators effort.turns >> (part p >>= λ y. pure (node found y))))
+      guarded_exact found =
+          exact_guarded (forms.behind_real (L S) x operand.real found) a_nil (node found nil_ended) (nil_behind found) refl (exact_behind found) (o.is_name x.1 && found.spaced_minus)
+
       module _ (kind : TokenKind) (operator : Binary) (is : table (look_of kind) ≡ Some operator) where
         exact_operation : Exact effort Any (ex.operation S within free table (L S) x) (ex.operation T within free table (L T) x) h (operations.operation effort.turns rec within free table p x)
         exact_operation =
             exact_map (ex.operation S within free table (L S) x) (ex.operation T within free table (L T) x)
             (forms.operation_in S within free table (L S) operand.real x) (forms.operation_out T within free table (L T) (λ w y c. begins_some (begins_or within) w (operand.begins w y c)) x)
-            (exact_bind (λ found. forms.guarded (o.is_name x.1 && found.sign) (behind S found)) (λ found. forms.guarded (o.is_name x.1 && found.sign) (behind T found)) h
-            (λ found. wrap found.at >> (operations.no_sign (o.is_name x.1 && found.sign) >> (separators effort.turns >> (part p >>= λ y. pure (node found y)))))
+            (exact_bind (λ found. forms.guarded (o.is_name x.1 && found.spaced_minus) (behind S found)) (λ found. forms.guarded (o.is_name x.1 && found.spaced_minus) (behind T found)) h
+            (λ found. wrap found.at >> (operations.no_sign (o.is_name x.1 && found.spaced_minus) >> (separators effort.turns >> (part p >>= λ y. pure (node found y)))))
             (exact_take effort (λ t found. operator_of t (table (look_of t.kind)) ≡ Some found) never (λ t. operator_of t (table (look_of t.kind))) (λ t found e. e) (λ t found e. e)
-            (a_token kind) (record { at = 0; operator = operator; sign = o.is_minus (look_of kind) && false }) (ap (operator_of (a_token kind)) is))
+            (a_token kind) (record { at = 0; operator = operator; spaced_minus = o.is_minus (look_of kind) && false }) (ap (operator_of (a_token kind)) is))
             (λ found. exact_silent (wrap found.at) (silent_wrap found.at) _
-            (exact_guarded (forms.behind_real (L S) x operand.real found) a_nil (node found nil_ended) (nil_behind found) refl (exact_behind found) (o.is_name x.1 && found.sign)))
-            (λ found. (a_nil, node found nil_ended, forms.guard_in (o.is_name x.1 && found.sign) (behind S found) a_nil (node found nil_ended) (λ _. refl) (nil_behind found)))
+            (exact_guarded (forms.behind_real (L S) x operand.real found) a_nil (node found nil_ended) (nil_behind found) refl (exact_behind found) (o.is_name x.1 && found.spaced_minus)))
+            (λ found. (a_nil, node found nil_ended, forms.guard_in (o.is_name x.1 && found.spaced_minus) (behind S found) a_nil (node found nil_ended) (λ _. refl) (nil_behind found)))
             (λ found b y rest d stop. never_stops (b ++ rest)))
 
     -- operations of this table behind an operand, one time and again
@@ -234,6 +252,11 @@ module _ (effort : Effort) (rec : Wanted → Reader Tree) (S T : Wanted → Form
       pub operation_exact : (x : Ended) → Exact effort Any (ex.operation S within free table (L S) x) (ex.operation T within free table (L T) x) h (one_more x)
       operation_exact x = exact_operation table L h p operand x kind operator is
 
+      operation_moves : (x : Ended) → Moves (g.is_operator table) (one_more x)
+      operation_moves x =
+          moves_bind (moves_take (g.is_operator table) (λ t. operator_of t (table (look_of t.kind))) (λ t full is. operator_read t (table (look_of t.kind)) is))
+          (λ found. advances_next (silent_wrap found.at) (never_back (guarded_exact table L h p operand x found)))
+
       pub operation_heads : (x : Ended) → Heads (g.is_operator table) (ex.operation T within free table (L T) x)
       operation_heads x w y rest c =
           let d = c.1 in
@@ -244,21 +267,22 @@ module _ (effort : Effort) (rec : Wanted → Reader Tree) (S T : Wanted → Form
       exact_chain : (x : Ended) → Exact effort Any (forms.chain S within free table (L S) x) (forms.chain T within free table (L T) x) (either (g.is_operator table) h)
           (operations.operations effort.turns rec within free table p x)
       exact_chain = exact_repeated effort (g.is_operator table) h apart (ex.operation S within free table (L S)) (ex.operation T within free table (L T)) one_more
-          (λ x. weaken _ (operation_exact x)) operation_heads
+          (λ x. weaken _ (operation_exact x)) operation_heads operation_moves
 
       pub chain_stops : (n : ℕ) (x : Ended) (w : List Token) (y : Ended) (rest : List Token) → repeated_of n (ex.operation T within free table (L T)) x w y
           → Stops (either (g.is_operator table) h) rest → Stops h (w ++ rest)
       chain_stops n x w y rest c stop =
-          repeated_stop h (ex.operation T within free table (L T)) (λ x. heads_halts (g.is_operator table) h _ (operation_heads x) apart) n x w y rest c (stops_right (g.is_operator table) h rest stop)
+          repeated_stop h (ex.operation T within free table (L T)) (λ x. heads_fails (g.is_operator table) h _ (operation_heads x) apart) n x w y rest c (stops_right (g.is_operator table) h rest stop)
 
       exact_single : (x : Ended) → Exact effort Any (forms.at_most_one S within free table (L S) x) (forms.at_most_one T within free table (L T) x) (either (g.is_operator table) h)
           (choose (g.is_operator table) (one_more x) (pure x))
       exact_single x =
           exact_choose effort (g.is_operator table) (ex.operation S within free table (L S) x) (ex.operation T within free table (L T) x) (nothing x) (nothing x)
           (either (g.is_operator table) h) (one_more x) (pure x)
-          (weaken _ (exact_goes (either (g.is_operator table) h) (λ found spaced no. either_right _ _ no) (operation_exact x))) (weaken _ (exact_pure effort x _))
+          (weaken _ (exact_goes (either (g.is_operator table) h) (λ found spaced no. (or_parts _ _ no).1) (operation_exact x))) (weaken _ (exact_pure effort x _))
           (operation_heads x)
           (λ w y rest d stop. rw d.0 (stops_left (g.is_operator table) h rest stop))
+          (λ y s d clear is. (operation_moves x).beyond s clear is)
 
       pub single_stops : (x : Ended) (w : List Token) (y : Ended) (rest : List Token) → forms.at_most_one T within free table (L T) x w y
           → Stops (either (g.is_operator table) h) rest → Stops h (w ++ rest)
@@ -341,24 +365,24 @@ module _ (effort : Effort) (rec : Wanted → Reader Tree) (S T : Wanted → Form
         record {
           here = forms.prod_splits S within free;
           there = forms.prod_splits T within free;
-          exact = exact_chain o.prod_operator k.Star binary.Star refl L (g.goes_operand free) (apart_prod free) first first_operand;
-          stops = λ x b y rest c stop. chain_stops o.prod_operator k.Star binary.Star refl L (g.goes_operand free) (apart_prod free) first first_operand c.0 x b y rest c.1 stop;
+          exact = exact_chain o.prod_operator (k.Plain l.Star) binary.Star refl L (g.goes_operand free) (apart_prod free) first first_operand;
+          stops = λ x b y rest c stop. chain_stops o.prod_operator (k.Plain l.Star) binary.Star refl L (g.goes_operand free) (apart_prod free) first first_operand c.0 x b y rest c.1 stop;
         }
 
     pub sum_level : Level (λ V. ex.sum V within free) (λ V. forms.sum_rest V within free) (g.goes_sum free) (operations.sum_from effort.turns rec within free)
-    sum_level = chain_above prod_level o.sum_operator k.Plus binary.Plus refl (apart_sum free)
+    sum_level = chain_above prod_level o.sum_operator (k.Plain l.Plus) binary.Plus refl (apart_sum free)
 
     pub shift_level : Level (λ V. ex.shift V within free) (λ V. forms.shift_rest V within free) (g.goes_shift free) (operations.shift_from effort.turns rec within free)
-    shift_level = chain_above sum_level o.shift_operator k.ShiftLeft binary.ShiftLeft refl (apart_shift free)
+    shift_level = chain_above sum_level o.shift_operator (k.Plain l.ShiftLeft) binary.ShiftLeft refl (apart_shift free)
 
     pub cmp_level : Level (λ V. ex.cmp V within free) (λ V. forms.cmp_rest V within free) (g.goes_cmp free) (operations.cmp_from effort.turns rec within free)
-    cmp_level = single_above shift_level o.cmp_operator k.Less binary.Less refl (apart_cmp free)
+    cmp_level = single_above shift_level o.cmp_operator (k.Plain l.Less) binary.Less refl (apart_cmp free)
 
     pub and_level : Level (λ V. ex.and V within free) (λ V. forms.and_rest V within free) (g.goes_and free) (operations.and_from effort.turns rec within free)
-    and_level = chain_above cmp_level o.and_operator k.AndAnd binary.And refl (apart_and free)
+    and_level = chain_above cmp_level o.and_operator (k.Plain l.AndAnd) binary.And refl (apart_and free)
 
     or_level : Level (λ V. ex.or V within free) (λ V. forms.or_rest V within free) (g.goes_or free) (operations.or_from effort.turns rec within free)
-    or_level = chain_above and_level o.or_operator k.OrOr binary.Or refl (apart_or free)
+    or_level = chain_above and_level o.or_operator (k.Plain l.OrOr) binary.Or refl (apart_or free)
 
     abbrev pub or_tree : (Wanted → Form Tree) → Ended → Form Tree
     or_tree V x = f.◌>>=◌ (forms.or_rest V within free x) (λ y. nothing y.0)

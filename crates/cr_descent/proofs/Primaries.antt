@@ -10,18 +10,24 @@ use Rattle.cr_syntax.specs.Look.{look_of}
 use Rattle.cr_grammar.specs.declared.tree.Tree.{Tree}
 use Rattle.cr_grammar.specs.declared.tree.Tree.TheVariants as tree
 use Rattle.cr_grammar.specs.declared.within.Within.{Within}
-use Rattle.cr_grammar.specs.Forms.{Form, Word}
+use Rattle.cr_grammar.specs.declared.word.Word.{Word}
+use Rattle.cr_grammar.specs.Forms.{Form}
 use Rattle.cr_grammar.specs.Forms as f
 use Rattle.cr_grammar.specs.Operators as o
-use Rattle.cr_grammar.specs.Wanted.{Wanted, Stmt, in_object}
+use Rattle.cr_grammar.specs.declared.wanted.Wanted.{Wanted}
+use Rattle.cr_grammar.specs.declared.wanted.Wanted.TheVariants.{Stmt}
+use Rattle.cr_grammar.specs.Wanted.{in_object}
 use Rattle.cr_grammar.specs.Expressions as ex
-use Rattle.cr_exact.specs.Reader.{Reader, Test, tight_seen, never, grow, allow}
-use Rattle.cr_exact.specs.Lists.{parenthesized}
+use Rattle.cr_readers.specs.Goes as goes_tests
+use Rattle.cr_readers.specs.Reader.{Reader, Test, tight_seen, never, grow, allow}
+use Rattle.cr_readers.specs.Lists.{parenthesized}
 use Rattle.cr_exact.specs.Exact.{Effort, Exact, Any}
-use Rattle.cr_descent.specs.Goes.{goes_primary, goes_stmt}
-use Rattle.cr_descent.specs.Operand.{Operand, Variable, Whole, named, yielded, above}
-use Rattle.cr_descent.specs.Bodies as bodies
-use Rattle.cr_descent.specs.Primaries as primaries
+use Rattle.cr_readers.specs.Goes.{goes_primary, goes_stmt}
+use Rattle.cr_readers.specs.declared.operand.Operand.{Operand}
+use Rattle.cr_readers.specs.declared.operand.Operand.TheVariants.{Variable, Whole}
+use Rattle.cr_readers.specs.Operand.{named, yielded, above}
+use Rattle.cr_readers.specs.Bodies as bodies
+use Rattle.cr_readers.specs.Primaries as primaries
 use Rattle.cr_exact.proofs.TokenTests.{Less, less_never}
 use Rattle.cr_exact.proofs.Sequence.{exact_bind, exact_pure, exact_map, weaken}
 use Rattle.cr_exact.proofs.Tokens.{Looks, Led, Branch, exact_word, exact_by, branch_where, exact_looks, led_one}
@@ -33,14 +39,14 @@ use Rattle.cr_exact.proofs.Lists.{exact_parenthesized}
 use Rattle.cr_descent.proofs.Words.{exact_ident, exact_instance_variable}
 use Rattle.cr_descent.proofs.Operands as operands
 use Rattle.cr_descent.proofs.Claims as claims
-use Rattle.cr_descent.proofs.Bodies.{exact_plain, exact_arguments, exact_maybe_block, stmt_halts, no_parenthesis, block_less, parenthesis_less}
+use Rattle.cr_descent.proofs.Bodies.{exact_plain, exact_arguments, exact_maybe_block, stmt_fails, no_parenthesis, block_less, parenthesis_less}
 use Rattle.cr_descent.proofs.Compounds.{exact_conditional, exact_looping, exact_cases, exact_select}
 use Rattle.cr_descent.proofs.Classes.{plain_some, exact_of_class}
 use Rattle.cr_descent.proofs.Literals.{exact_number_node, exact_text, exact_insertions, exact_array, exact_hash}
 
 -- ---- the first token
 
-module _ (effort : Effort) (rec : Wanted → Reader Tree) (S T : Wanted → Form Tree) (given : claims.Given effort rec S T) (within : Within) (free : Bool) where
+module _ {effort : Effort} {rec : Wanted → Reader Tree} {S T : Wanted → Form Tree} (given : claims.Given effort rec S T) (within : Within) (free : Bool) where
   abbrev turns : ℕ
   turns = effort.turns
 
@@ -72,20 +78,20 @@ module _ (effort : Effort) (rec : Wanted → Reader Tree) (S T : Wanted → Form
 
   exact_spawned : Exact effort Any (ex.spawned S within free) (ex.spawned T within free) never (primaries.spawned turns rec within free)
   exact_spawned =
-      exact_bind (spawned_behind S) (spawned_behind T) never _ (exact_word effort k.Spawn never)
+      exact_bind (spawned_behind S) (spawned_behind T) never _ (exact_word effort (k.Plain l.Spawn) never)
       (λ at. exact_silent (grow at) (silent_grow at) _
-      (exact_bind (λ body. f.nothing (tree.Spawn at None body)) (λ body. f.nothing (tree.Spawn at None body)) never _ (exact_plain effort rec S T given within free)
+      (exact_bind (λ body. f.nothing (tree.Spawn at None body)) (λ body. f.nothing (tree.Spawn at None body)) never _ (exact_plain given within free)
       (λ body. exact_pure effort (tree.Spawn at None body) never)
       (λ body. spelled_nothing (tree.Spawn at None body))
       (λ body. follows_never (f.nothing (tree.Spawn at None body)) never)))
-      (λ at. spelled_bind (plain_some effort rec S T given within free) (λ body. spelled_nothing (tree.Spawn at None body)))
+      (λ at. spelled_bind (plain_some given within free) (λ body. spelled_nothing (tree.Spawn at None body)))
       (λ at. follows_never (spawned_behind T at) never)
 
   exact_statement : Exact effort Any (f.parenthesized (S (Stmt within))) (f.parenthesized (T (Stmt within))) never (parenthesized turns (rec (Stmt within)))
   exact_statement =
       let some = given.some (Stmt within) in
       exact_parenthesized effort (S (Stmt within)) (T (Stmt within)) goes_stmt (rec (Stmt within)) (given.exact (Stmt within))
-      (stmt_halts effort rec S T given within l.Newline refl)
+      (stmt_fails given within l.Newline refl)
       some.0 some.1 some.2 (λ spaced. refl) (λ spaced. refl)
 
   -- ---- names, `yield` and `super`, and variables
@@ -103,12 +109,12 @@ module _ (effort : Effort) (rec : Wanted → Reader Tree) (S T : Wanted → Form
   exact_name =
       exact_bind (name_behind S) (name_behind T) goes _ (exact_ident effort never)
       (λ name. exact_silent (grow name.at) (silent_grow name.at) _
-      (exact_bind (named_behind S name) (named_behind T name) goes _ (exact_arguments effort rec S T given within free)
+      (exact_bind (named_behind S name) (named_behind T name) goes _ (exact_arguments given within free)
       (λ arguments. exact_bind (λ block. f.nothing (named name arguments block)) (λ block. f.nothing (named name arguments block)) goes _
-      (exact_maybe_block effort rec S T given within free)
+      (exact_maybe_block given within free)
       (λ block. exact_pure effort (named name arguments block) goes)
       (λ block. spelled_nothing (named name arguments block))
-      (λ block. follows_nothing (bodies.begins_block turns rec free) goes (named name arguments block) (block_less turns rec free)))
+      (λ block. follows_nothing (goes_tests.begins_block free) goes (named name arguments block) (block_less turns rec free)))
       (λ arguments. spelled_bind (spelled_maybe _) (λ block. spelled_nothing (named name arguments block)))
       (λ arguments. follows_bind (tight_seen l.OpenParenthesis) goes (f.maybe (ex.block T within free)) (λ block. f.nothing (named name arguments block))
       (follows_maybe (tight_seen l.OpenParenthesis) (tight_seen l.OpenParenthesis) (ex.block T within free) (λ look spaced e. e)
@@ -124,7 +130,7 @@ module _ (effort : Effort) (rec : Wanted → Reader Tree) (S T : Wanted → Form
       let behind : (Wanted → Form Tree) → ℕ → Form Operand = λ Q at. f.◌>>=◌ (operands.arguments Q within free) (λ arguments. f.nothing (make at arguments)) in
       exact_bind (behind S) (behind T) goes _ (exact_word effort kind never)
       (λ at. exact_silent (grow at) (silent_grow at) _
-      (exact_bind (λ arguments. f.nothing (make at arguments)) (λ arguments. f.nothing (make at arguments)) goes _ (exact_arguments effort rec S T given within free)
+      (exact_bind (λ arguments. f.nothing (make at arguments)) (λ arguments. f.nothing (make at arguments)) goes _ (exact_arguments given within free)
       (λ arguments. exact_pure effort (make at arguments) goes)
       (λ arguments. spelled_nothing (make at arguments))
       (λ arguments. follows_nothing (tight_seen l.OpenParenthesis) goes (make at arguments) (parenthesis_less free))))
@@ -173,7 +179,7 @@ module _ (effort : Effort) (rec : Wanted → Reader Tree) (S T : Wanted → Form
   exact_number : Exact effort Any (operands.primary S within free) (all_of (ex.number T within free)) goes (primaries.all_of turns rec within free (primaries.number_node turns rec within free))
   exact_number =
       exact_map (operands.primary S within free) (all_of (ex.number T within free)) number_head (λ w x c. c)
-      (exact_all (ex.number S within free) (ex.number T within free) never _ (less_never goes) (exact_number_node effort rec S T given within free))
+      (exact_all (ex.number S within free) (ex.number T within free) never _ (less_never goes) (exact_number_node given within free))
 
   abbrev pub whole_text : Form Tree
   whole_text = f.◌>>=◌ (f.holding (λ text. k.Text text)) (λ text. f.nothing (tree.Text text.at text.text))
@@ -200,13 +206,13 @@ module _ (effort : Effort) (rec : Wanted → Reader Tree) (S T : Wanted → Form
   text_head =
       inl (exact_looks l.Text (all_of (ex.text T within free)) text_real whole_back
       (exact_map (operands.primary S within free) (all_of whole_text) (λ w x c. (l.Text, led_whole w x c, (c.0, c.1, c.2, c.3, inl c.4, c.5))) (λ w x c. c)
-      (exact_all whole_text whole_text never _ (less_never goes) (exact_text effort rec S T given within free))))
+      (exact_all whole_text whole_text never _ (less_never goes) (exact_text given within free))))
 
   insertions_head : Head l.TextFirst (primaries.all_of turns rec within free (primaries.insertions turns rec within free))
   insertions_head =
       inl (exact_looks l.TextFirst (all_of (ex.text T within free)) text_real first_back
       (exact_map (operands.primary S within free) (all_of (ex.insertions T within free)) (λ w x c. (l.TextFirst, insertions_led S w x c, (c.0, c.1, c.2, c.3, inr c.4, c.5))) (λ w x c. c)
-      (exact_all (ex.insertions S within free) (ex.insertions T within free) never _ (less_never goes) (exact_insertions effort rec S T given within free))))
+      (exact_all (ex.insertions S within free) (ex.insertions T within free) never _ (less_never goes) (exact_insertions given within free))))
 
   -- ---- classes
 
@@ -226,46 +232,46 @@ module _ (effort : Effort) (rec : Wanted → Reader Tree) (S T : Wanted → Form
   branch l.Int64 = inl (weaken (Looks l.Int64) exact_number)
   branch l.Text = text_head
   branch l.TextFirst = insertions_head
-  branch l.Nil = whole l.Nil _ _ never _ (λ w x c. c) (λ w x c. c) (leaf_head k.Nil _) (less_never goes) (exact_leaf k.Nil (λ at. tree.Nil at))
-  branch l.True = whole l.True _ _ never _ (λ w x c. c) (λ w x c. c) (leaf_head k.True _) (less_never goes) (exact_leaf k.True (λ at. tree.True at))
-  branch l.False = whole l.False _ _ never _ (λ w x c. c) (λ w x c. c) (leaf_head k.False _) (less_never goes) (exact_leaf k.False (λ at. tree.False at))
+  branch l.Nil = whole l.Nil _ _ never _ (λ w x c. c) (λ w x c. c) (leaf_head (k.Plain l.Nil) _) (less_never goes) (exact_leaf (k.Plain l.Nil) (λ at. tree.Nil at))
+  branch l.True = whole l.True _ _ never _ (λ w x c. c) (λ w x c. c) (leaf_head (k.Plain l.True) _) (less_never goes) (exact_leaf (k.Plain l.True) (λ at. tree.True at))
+  branch l.False = whole l.False _ _ never _ (λ w x c. c) (λ w x c. c) (leaf_head (k.Plain l.False) _) (less_never goes) (exact_leaf (k.Plain l.False) (λ at. tree.False at))
   branch l.KeywordSelf =
       head_where l.KeywordSelf (in_object within) (all_of (ex.leaf S within free l.KeywordSelf (λ at. tree.KeywordSelf at))) (all_of (ex.leaf T within free l.KeywordSelf (λ at. tree.KeywordSelf at))) _
-      (λ is w x c. (is, c)) (led_all l.KeywordSelf _ (leaf_head k.KeywordSelf (λ at. tree.KeywordSelf at)))
-      (exact_all _ _ never _ (less_never goes) (exact_leaf k.KeywordSelf (λ at. tree.KeywordSelf at)))
+      (λ is w x c. (is, c)) (led_all l.KeywordSelf _ (leaf_head (k.Plain l.KeywordSelf) (λ at. tree.KeywordSelf at)))
+      (exact_all _ _ never _ (less_never goes) (exact_leaf (k.Plain l.KeywordSelf) (λ at. tree.KeywordSelf at)))
   branch l.InstanceVariable =
       head_where l.InstanceVariable (in_object within) (operands.variable S within free) (operands.variable T within free) _
       (λ is w x c. (is, c)) (led_bind l.InstanceVariable f.instance_variable _ (led_held (λ text. k.InstanceVariable text) l.InstanceVariable (λ text. refl))) exact_variable
   branch l.Ident = head l.Ident _ (led_bind l.Ident f.ident _ (led_held (λ text. k.Ident text) l.Ident (λ text. refl))) exact_name
   branch l.Yield =
       head_where l.Yield within.method (operands.passed_on S within free l.Yield yielded) (operands.passed_on T within free l.Yield yielded) _
-      (λ is w x c. (is, c)) (led l.Yield _) (exact_passed_on k.Yield yielded)
+      (λ is w x c. (is, c)) (led l.Yield _) (exact_passed_on (k.Plain l.Yield) yielded)
   branch l.Super =
       head_where l.Super within.method (operands.passed_on S within free l.Super above) (operands.passed_on T within free l.Super above) _
-      (λ is w x c. (is, c)) (led l.Super _) (exact_passed_on k.Super above)
-  branch l.Constant = whole l.Constant _ _ goes _ (λ w x c. c) (λ w x c. c) led_class (λ look spaced e. e) (exact_of_class effort rec S T given within free)
-  branch l.OpenBracket = whole l.OpenBracket _ _ goes _ (λ w x c. c) (λ w x c. c) (led l.OpenBracket _) (λ look spaced e. e) (exact_array effort rec S T given within free)
-  branch l.OpenBrace = whole l.OpenBrace _ _ goes _ (λ w x c. c) (λ w x c. c) (led l.OpenBrace _) (λ look spaced e. e) (exact_hash effort rec S T given within free)
+      (λ is w x c. (is, c)) (led l.Super _) (exact_passed_on (k.Plain l.Super) above)
+  branch l.Constant = whole l.Constant _ _ goes _ (λ w x c. c) (λ w x c. c) led_class (λ look spaced e. e) (exact_of_class given within free)
+  branch l.OpenBracket = whole l.OpenBracket _ _ goes _ (λ w x c. c) (λ w x c. c) (led l.OpenBracket _) (λ look spaced e. e) (exact_array given within free)
+  branch l.OpenBrace = whole l.OpenBrace _ _ goes _ (λ w x c. c) (λ w x c. c) (led l.OpenBrace _) (λ look spaced e. e) (exact_hash given within free)
   branch l.OpenParenthesis = whole l.OpenParenthesis _ _ never _ (λ w x c. c) (λ w x c. c) (led l.OpenParenthesis _) (less_never goes) exact_statement
   branch l.Spawn = whole l.Spawn _ _ never _ (λ w x c. c) (λ w x c. c) (led l.Spawn _) (less_never goes) exact_spawned
-  branch l.If = whole l.If _ _ never _ (λ w x c. c) (λ w x c. c) (led l.If _) (less_never goes) (exact_conditional effort rec S T given within free).0
-  branch l.Unless = whole l.Unless _ _ never _ (λ w x c. c) (λ w x c. c) (led l.Unless _) (less_never goes) (exact_conditional effort rec S T given within free).1
-  branch l.While = whole l.While _ _ never _ (λ w x c. c) (λ w x c. c) (led l.While _) (less_never goes) (exact_looping effort rec S T given within free).0
-  branch l.Until = whole l.Until _ _ never _ (λ w x c. c) (λ w x c. c) (led l.Until _) (less_never goes) (exact_looping effort rec S T given within free).1
-  branch l.Case = whole l.Case _ _ never _ (λ w x c. c) (λ w x c. c) (led l.Case _) (less_never goes) (exact_cases effort rec S T given within free)
-  branch l.Select = whole l.Select _ _ never _ (λ w x c. c) (λ w x c. c) (led l.Select _) (less_never goes) (exact_select effort rec S T given within free)
+  branch l.If = whole l.If _ _ never _ (λ w x c. c) (λ w x c. c) (led l.If _) (less_never goes) (exact_conditional given within free).0
+  branch l.Unless = whole l.Unless _ _ never _ (λ w x c. c) (λ w x c. c) (led l.Unless _) (less_never goes) (exact_conditional given within free).1
+  branch l.While = whole l.While _ _ never _ (λ w x c. c) (λ w x c. c) (led l.While _) (less_never goes) (exact_looping given within free).0
+  branch l.Until = whole l.Until _ _ never _ (λ w x c. c) (λ w x c. c) (led l.Until _) (less_never goes) (exact_looping given within free).1
+  branch l.Case = whole l.Case _ _ never _ (λ w x c. c) (λ w x c. c) (led l.Case _) (less_never goes) (exact_cases given within free)
+  branch l.Select = whole l.Select _ _ never _ (λ w x c. c) (λ w x c. c) (led l.Select _) (less_never goes) (exact_select given within free)
   branch other = inr (refl, λ w x led c. c)
 
   -- `nil` is spelled.
   primary_some : Spelled (operands.primary S within free)
   primary_some =
-      let nil = spelled_bind (spelled_bind (spelled_word k.Nil) (λ at. spelled_nothing (tree.Nil at))) (λ x. spelled_nothing (Whole x)) in
-      (nil.0, nil.1, (l.Nil, led_all l.Nil _ (leaf_head k.Nil (λ at. tree.Nil at)) nil.0 nil.1 nil.2, nil.2))
+      let nil = spelled_bind (spelled_bind (spelled_word (k.Plain l.Nil)) (λ at. spelled_nothing (tree.Nil at))) (λ x. spelled_nothing (Whole x)) in
+      (nil.0, nil.1, (l.Nil, led_all l.Nil _ (leaf_head (k.Plain l.Nil) (λ at. tree.Nil at)) nil.0 nil.1 nil.2, nil.2))
 
   exact_here : claims.Primary effort rec S T within free
   exact_here =
       exact_by effort (primaries.primary_by turns rec within free) (operands.primary S within free) (operands.primary_by T within free) goes branch primary_some.0 primary_some.1 primary_some.2
 
-module _ (effort : Effort) (rec : Wanted → Reader Tree) (S T : Wanted → Form Tree) (given : claims.Given effort rec S T) where
+module _ {effort : Effort} {rec : Wanted → Reader Tree} {S T : Wanted → Form Tree} (given : claims.Given effort rec S T) where
   pub exact_primary : (within : Within) (free : Bool) → claims.Primary effort rec S T within free
-  exact_primary within free = exact_here effort rec S T given within free
+  exact_primary within free = exact_here given within free

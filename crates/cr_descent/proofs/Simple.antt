@@ -1,5 +1,6 @@
 -- Whole statements are read exactly.
 use Rattle.std.proofs.Common.{◌≡◌, ℕ, Bool, true, false, ◌&&◌, ◌||◌, List, [], ◌∷◌, ◌++◌, inl, inr, refl, sym, ap, subst, ◌∙◌}
+use Rattle.std.proofs.lemmas.Bool.{and_from, and_parts}
 use Rattle.std.specs.Prelude.{not, Option, Some, None}
 use Rattle.std.proofs.lemmas.List.{append-nil}
 use Rattle.cr_syntax.specs.declared.look.TokenLook.{TokenLook}
@@ -15,19 +16,22 @@ use Rattle.cr_grammar.specs.declared.within.Within.{Within}
 use Rattle.cr_grammar.specs.Forms.{Form, nothing, ◌<|>◌, passing, maybe, from_first, word, with_last}
 use Rattle.cr_grammar.specs.Forms as f
 use Rattle.cr_grammar.specs.Operators as o
-use Rattle.cr_grammar.specs.Wanted.{Wanted, Or}
+use Rattle.cr_grammar.specs.declared.wanted.Wanted.{Wanted}
+use Rattle.cr_grammar.specs.declared.wanted.Wanted.TheVariants.{Or}
 use Rattle.cr_grammar.specs.Laws.{first_is, begins_or}
 use Rattle.cr_grammar.specs.Expressions as ex
 use Rattle.cr_grammar.specs.Grammar as gr
 use Rattle.cr_grammar.proofs.Derive as derive
-use Rattle.cr_exact.specs.Reader.{Reader, Test, passes, same_look, seen, either, never, choose, ◌>>=◌, ◌>>◌, pure, grow, wrap, part}
-use Rattle.cr_exact.specs.Lists.{optional}
+use Rattle.cr_readers.specs.Reader.{Reader, Test, passes, same_look, seen, either, never, choose, ◌>>=◌, ◌>>◌, pure, grow, wrap, part}
+use Rattle.cr_readers.specs.Lists.{optional}
 use Rattle.cr_exact.specs.Exact.{Stops, Effort, Exact, Any}
-use Rattle.cr_descent.specs.Goes as g
-use Rattle.cr_descent.specs.Operand.{Operand, Name, Field, Element, Variable, Yielding, Above, Passing, Whole, whole}
-use Rattle.cr_descent.specs.Operations as operations
-use Rattle.cr_descent.specs.Statements as statements
-use Rattle.cr_exact.proofs.TokenTests.{never_stops, not_seen, Less, stops_less, both_true}
+use Rattle.cr_readers.specs.Goes as g
+use Rattle.cr_readers.specs.declared.operand.Operand.{Operand}
+use Rattle.cr_readers.specs.declared.operand.Operand.TheVariants.{Name, Field, Element, Variable, Yielding, Above, Passing, Whole}
+use Rattle.cr_readers.specs.Operand.{whole}
+use Rattle.cr_readers.specs.Operations as operations
+use Rattle.cr_readers.specs.Statements as statements
+use Rattle.cr_exact.proofs.TokenTests.{never_stops, not_seen, Less, stops_less}
 use Rattle.cr_exact.proofs.Sequence.{exact_bind, exact_pure, exact_map, exact_goes, weaken}
 use Rattle.cr_exact.proofs.Tokens.{Passing as NextPasses, Branch, Led, exact_word, exact_choose, exact_by, branch_where}
 use Rattle.cr_exact.proofs.Forms.{spelled_nothing, made_in, made_out, begins_some, append_none}
@@ -40,9 +44,11 @@ use Rattle.cr_descent.proofs.OperationForms.{or_rest, or_rest_none, level_begins
 use Rattle.cr_descent.proofs.Operations.{exact_or, or_rest_stops}
 use Rattle.cr_descent.proofs.Links.{exact_postfix}
 use Rattle.cr_descent.proofs.StatementForms as forms
-use Rattle.cr_descent.proofs.Claims as claims
-use Rattle.cr_exact.proofs.TwoTokens.{Settled, tight_nil, spaced_nil}
+use Rattle.cr_exact.proofs.Moves.{Moves, moves_bind, moves_word, moves_part, moves_opened, advances_bind, advances_next, advances_pure}
+use Rattle.cr_exact.proofs.Sequence.{never_back}
+use Rattle.cr_exact.proofs.TwoTokens.{Settled, tight_nil}
 use Rattle.cr_descent.proofs.Statements.{simple_or, argument_begins, assignment_other, field_is_any, exact_behind}
+use Rattle.cr_descent.proofs.StatementClaims.{Premises}
 
 -- What ends a statement ends one without modifier.
 pub stmt_simple : Less g.goes_simple g.goes_stmt
@@ -71,7 +77,7 @@ stmt_modifier l.End spaced e = (refl, refl)
 stmt_modifier _ spaced e = absurd cc
 
 -- What ends a statement begins no value, but for a modifier.
-simple_value : (turns : ℕ) (rec : Wanted → Reader Tree) (within : Within) → Less (statements.begins_value turns rec within) g.goes_simple
+simple_value : (turns : ℕ) (rec : Wanted → Reader Tree) (within : Within) → Less (g.begins_left within) g.goes_simple
 simple_value turns rec within l.If spaced e = refl
 simple_value turns rec within l.Unless spaced e = refl
 simple_value turns rec within l.Then spaced e = refl
@@ -86,17 +92,7 @@ simple_value turns rec within l.When spaced e = refl
 simple_value turns rec within l.End spaced e = refl
 simple_value turns rec within _ spaced e = absurd cc
 
-and_both : (a b : Bool) → a ≡ true → b ≡ true → a && b ≡ true
-and_both a b e h = rw (e, h) refl
-
-module _ (effort : Effort) (sure : Type 0) (rec : Wanted → Reader Tree) (S T U : Wanted → Form Tree) (given : claims.Given effort rec S T)
-    (other : claims.Given (record { deep = sure; turns = effort.turns }) rec S U) (within : Within)
-    (s_settled : (w : List Token) (x : Tree) → S (Or within false) w x → Settled w)
-    (t_settled : (w : List Token) (x : Tree) → T (Or within false) w x → Settled w)
-    (plain : (x : Tree) × S (Or within false) (spaced_nil ∷ []) x)
-    (s_signed : (t : Token) → o.is_minus (look_of t.kind) ≡ true → (x : Tree) × S (Or within false) (t ∷ tight_nil ∷ []) x)
-    (u_signed : (t : Token) → o.is_minus (look_of t.kind) ≡ true → (x : Tree) × U (Or within false) (t ∷ tight_nil ∷ []) x)
-    (apart_s : forms.Apart S within) (apart_t : forms.Apart T within) where
+module _ {effort : Effort} {sure : Type 0} {rec : Wanted → Reader Tree} {S T U : Wanted → Form Tree} {within : Within} (premises : Premises effort sure rec S T U within) where
   -- ---- a statement that begins with a postfix
 
   abbrev pub At : (Wanted → Form Tree) → ℕ → Form Tree
@@ -141,7 +137,7 @@ module _ (effort : Effort) (sure : Type 0) (rec : Wanted → Reader Tree) (S T U
   operated_follows : (x : Tree × TokenLook) (w : List Token) (y : Tree) (rest : List Token) → forms.operated T within x w y → Stops g.goes_simple rest → Stops (g.goes_operand true) (w ++ rest)
   operated_follows x w y rest c stop =
       let n = made_out (or_rest T within true x) (λ (v : Tree × TokenLook). v.0) w y c in
-      or_rest_stops effort rec S T given within true x w n.0 rest n.1 (stops_less (g.goes_or true) g.goes_simple (simple_or true) rest stop)
+      or_rest_stops premises.given within true x w n.0 rest n.1 (stops_less (g.goes_or true) g.goes_simple (simple_or true) rest stop)
 
   or_follows : (K : Form Tree) (x : Tree × TokenLook) (w : List Token) (y : Tree) (rest : List Token) → forms.or_operated T within K x w y → Stops g.goes_simple rest → Stops (g.goes_operand true) (w ++ rest)
   or_follows K x w y rest (inl c) stop = (argument_begins w rest c.0).1
@@ -165,8 +161,8 @@ module _ (effort : Effort) (sure : Type 0) (rec : Wanted → Reader Tree) (S T U
   exact_from_postfix =
       exact_here (At S) (At T) g.goes_simple _
       (λ at. exact_bind (forms.behind S within at) (forms.behind T within at) g.goes_simple (statements.behind effort.turns rec within at)
-      (exact_last _ (exact_postfix effort rec S T given within true) (postfix_real S apart_s) (postfix_real T apart_t))
-      (exact_behind effort sure rec S T U given other within s_settled t_settled plain s_signed u_signed at)
+      (exact_last _ (exact_postfix premises.given within true) (postfix_real S premises.apart_s) (postfix_real T premises.apart_t))
+      (exact_behind premises at)
       (λ x. (
         [],
         whole x.0,
@@ -174,13 +170,13 @@ module _ (effort : Effort) (sure : Type 0) (rec : Wanted → Reader Tree) (S T U
             (made_in (or_rest S within true (whole x.0, forms.seen_of x.0 x.1)) (λ (v : Tree × TokenLook). v.0) [] (whole x.0, forms.seen_of x.0 x.1) (or_rest_none S within true (whole x.0, forms.seen_of x.0 x.1))),
       ))
       (behind_follows at))
-      (at_real S apart_s) (at_real T apart_t)
+      (at_real S premises.apart_s) (at_real T premises.apart_t)
       (λ at there w x c. let m = behind_moves at there c.2 c.1 x c.5 in (m.0, (c.0, c.1, c.2, c.3, c.4, m.1)))
 
   -- ---- jumps
 
   abbrev pub BeginsValue : Test
-  BeginsValue = statements.begins_value effort.turns rec within
+  BeginsValue = g.begins_left within
 
   pub or_begins : (Q : Wanted → Form Tree) (w : List Token) (x : Tree) → ex.or Q within true w x → first_is (begins_or within) w ≡ true
   or_begins Q w x c = level_begins Q within true (ex.or Q within true) (or_rest Q within true) (or_level Q within true) w x c
@@ -190,11 +186,11 @@ module _ (effort : Effort) (sure : Type 0) (rec : Wanted → Reader Tree) (S T U
 
   no_modifier_out : (w : List Token) → passes BeginsValue w ≡ true → o.begins_no_modifier w ≡ true
   no_modifier_out [] is = absurd cc
-  no_modifier_out (t ∷ w) is = (both_true (begins_or within (look_of t.kind)) _ is).1
+  no_modifier_out (t ∷ w) is = (and_parts (begins_or within (look_of t.kind)) _ is).1
 
   pub no_modifier_back : (w rest : List Token) → first_is (begins_or within) w ≡ true → o.begins_no_modifier w ≡ true → passes BeginsValue (w ++ rest) ≡ true
   no_modifier_back [] rest begins is = absurd cc
-  no_modifier_back (t ∷ w) rest begins is = and_both (begins_or within (look_of t.kind)) _ begins is
+  no_modifier_back (t ∷ w) rest begins is = and_from (begins_or within (look_of t.kind)) _ begins is
 
   abbrev pub Value : (Wanted → Form Tree) → Form Tree
   Value Q = passing o.begins_no_modifier (ex.or Q within true)
@@ -209,7 +205,13 @@ module _ (effort : Effort) (sure : Type 0) (rec : Wanted → Reader Tree) (S T U
       (λ w x c. (no_modifier_out w c.0, c.1))
       (λ w x c. (sym (ap (passes BeginsValue) (append-nil w)) ∙ no_modifier_back w [] (or_begins T w x c.1) c.0, c.1))
       (exact_passing (NextPasses BeginsValue) BeginsValue (λ ts is. is) (or_real S) (tight_nil ∷ []) (tree.Nil 0) (nil_or S) refl
-      (exact_part _ (exact_or effort rec S T given within true)))
+      (exact_part _ (exact_or premises.given within true)))
+
+  value_moves : Moves BeginsValue (part (operations.or effort.turns rec within true))
+  value_moves =
+      moves_part (operations.or effort.turns rec within true)
+      (moves_opened BeginsValue (operations.or effort.turns rec within true) (exact_or premises.other within true) (or_real S)
+      (λ t full is. premises.opened t full (and_parts (begins_or within (look_of t.kind)) _ is).0))
 
   pub value_less : Less (either BeginsValue (g.goes_or true)) g.goes_simple
   value_less look spaced e = rw (simple_value effort.turns rec within look spaced e, simple_or true look spaced e) refl
@@ -223,7 +225,7 @@ module _ (effort : Effort) (sure : Type 0) (rec : Wanted → Reader Tree) (S T U
       (λ at. exact_silent (grow at) (silent_grow at) _
       (exact_bind (λ value. nothing (make at value)) (λ value. nothing (make at value)) g.goes_simple (λ value. pure (make at value))
       (exact_optional_where effort (Value S) (Value T) (g.goes_or true) (part (operations.or effort.turns rec within true)) BeginsValue exact_value
-      (λ w x rest c. no_modifier_back w rest (or_begins T w x c.1) c.0))
+      (λ w x rest c. no_modifier_back w rest (or_begins T w x c.1) c.0) value_moves)
       (λ value. exact_pure effort (make at value) g.goes_simple) (λ value. spelled_nothing (make at value))
       (λ value. follows_nothing (either BeginsValue (g.goes_or true)) g.goes_simple (make at value) value_less)))
       (λ at. ([], make at None, ([], [], None, refl, refl, (refl, refl))))
@@ -235,29 +237,29 @@ module _ (effort : Effort) (sure : Type 0) (rec : Wanted → Reader Tree) (S T U
   exact_breaking : Exact effort Any Breaking Breaking g.goes_simple (statements.breaking effort.turns rec within)
   exact_breaking =
       exact_bind (λ at. nothing (tree.Break at)) (λ at. nothing (tree.Break at)) g.goes_simple (λ at. grow at >> pure (tree.Break at))
-      (exact_word effort k.Break never)
+      (exact_word effort (k.Plain l.Break) never)
       (λ at. exact_silent (grow at) (silent_grow at) _ (exact_pure effort (tree.Break at) g.goes_simple))
       (λ at. spelled_nothing (tree.Break at)) (λ at b y rest d stop. never_stops (b ++ rest))
 
   -- ---- a statement without modifier
 
   abbrev AnyOr : Exact effort Any (ex.or S within true) (ex.or T within true) g.goes_simple (operations.or effort.turns rec within true)
-  AnyOr = exact_goes g.goes_simple (simple_or true) (exact_or effort rec S T given within true)
+  AnyOr = exact_goes g.goes_simple (simple_or true) (exact_or premises.given within true)
 
   simple_branch : (look : TokenLook) → Branch effort look (gr.simple S within) (forms.simple_by T within look) g.goes_simple (statements.simple_by effort.turns rec within look)
   simple_branch l.Return = branch_where l.Return (within.method && not within.block) (gr.simple S within) _ g.goes_simple _
-      (λ is. weaken _ (exact_map (gr.simple S within) _ (λ w x c. inr (inr (inl (inl (is, c))))) (λ w x c. c) (exact_leaving k.Return (λ at value. tree.Return at value))))
+      (λ is. weaken _ (exact_map (gr.simple S within) _ (λ w x c. inr (inr (inl (inl (is, c))))) (λ w x c. c) (exact_leaving (k.Plain l.Return) (λ at value. tree.Return at value))))
   simple_branch l.Next = branch_where l.Next (within.in_loop || within.block) (gr.simple S within) _ g.goes_simple _
-      (λ is. weaken _ (exact_map (gr.simple S within) _ (λ w x c. inr (inr (inl (inr (inl (is, c)))))) (λ w x c. c) (exact_leaving k.Next (λ at value. tree.Next at value))))
+      (λ is. weaken _ (exact_map (gr.simple S within) _ (λ w x c. inr (inr (inl (inr (inl (is, c)))))) (λ w x c. c) (exact_leaving (k.Plain l.Next) (λ at value. tree.Next at value))))
   simple_branch l.Break = branch_where l.Break within.in_loop (gr.simple S within) _ g.goes_simple _
       (λ is. weaken _ (exact_map (gr.simple S within) _ (λ w x c. inr (inr (inl (inr (inr (is, c)))))) (λ w x c. c) exact_breaking))
   simple_branch l.Bang = inl (weaken _ (exact_map (gr.simple S within) (ex.or T within true) (λ w x c. inr (inr (inr c))) (λ w x c. c) AnyOr))
   simple_branch l.Minus = inl (weaken _ (exact_map (gr.simple S within) (ex.or T within true) (λ w x c. inr (inr (inr c))) (λ w x c. c) AnyOr))
-  simple_branch _ = inl (weaken _ (exact_map (gr.simple S within) (forms.from_postfix T within) (forms.from_postfix_out S within apart_s s_settled) (λ w x c. c) exact_from_postfix))
+  simple_branch _ = inl (weaken _ (exact_map (gr.simple S within) (forms.from_postfix T within) (forms.from_postfix_out S within premises.apart_s premises.s_settled) (λ w x c. c) exact_from_postfix))
 
   pub exact_simple : Exact effort Any (gr.simple S within) (gr.simple T within) g.goes_simple (statements.simple effort.turns rec within)
   exact_simple =
-      exact_map (gr.simple S within) (gr.simple T within) (λ w x c. c) (forms.simple_in T within apart_t t_settled)
+      exact_map (gr.simple S within) (gr.simple T within) (λ w x c. c) (forms.simple_in T within premises.apart_t premises.t_settled)
       (exact_by effort (statements.simple_by effort.turns rec within) (gr.simple S within) (forms.simple_by T within) g.goes_simple simple_branch
       (tight_nil ∷ []) (tree.Nil 0) (inr (inr (inr (nil_or S)))))
 
@@ -292,17 +294,23 @@ module _ (effort : Effort) (sure : Type 0) (rec : Wanted → Reader Tree) (S T U
   no_if at x w y rest (inl c) stop = led_first false l.Unless (seen l.If) (not_seen l.Unless l.If (λ e. cc)) w rest (modified_led at x l.Unless true w y c)
   no_if at x w y rest (inr d) stop = rw d.0 (stops_less (seen l.If) g.goes_stmt (λ look spaced e. (stmt_modifier look spaced e).0) rest stop)
 
+  modified_move : (at : ℕ) (x : Tree) (sought : TokenLook) (unless : Bool) → Moves (seen sought) (statements.modified effort.turns rec within at x sought unless)
+  modified_move at x sought unless =
+      moves_bind (moves_word sought) (λ place. advances_next (silent_wrap place) (advances_bind (never_back (exact_part _ exact_simple)) (λ c. advances_pure _)))
+
   exact_tail : (at : ℕ) (x : Tree) → Exact effort Any (Tail S at x) (Tail T at x) g.goes_stmt
       (choose (seen l.If) (statements.modified effort.turns rec within at x l.If false) (choose (seen l.Unless) (statements.modified effort.turns rec within at x l.Unless true) (pure x)))
   exact_tail at x =
       exact_choose effort (seen l.If) (Modified S at x l.If false) (Modified T at x l.If false) (Modified S at x l.Unless true <|> nothing x) (Modified T at x l.Unless true <|> nothing x) g.goes_stmt _ _
-      (weaken _ (exact_modified at x k.If false))
+      (weaken _ (exact_modified at x (k.Plain l.If) false))
       (weaken _ (exact_choose effort (seen l.Unless) (Modified S at x l.Unless true) (Modified T at x l.Unless true) (nothing x) (nothing x) g.goes_stmt _ _
-      (weaken _ (exact_modified at x k.Unless true)) (weaken _ (exact_pure effort x g.goes_stmt))
+      (weaken _ (exact_modified at x (k.Plain l.Unless) true)) (weaken _ (exact_pure effort x g.goes_stmt))
       (λ w y rest c. led_seen l.Unless w rest (modified_led at x l.Unless true w y c))
-      (λ w y rest d stop. rw d.0 (stops_less (seen l.Unless) g.goes_stmt (λ look spaced e. (stmt_modifier look spaced e).1) rest stop))))
+      (λ w y rest d stop. rw d.0 (stops_less (seen l.Unless) g.goes_stmt (λ look spaced e. (stmt_modifier look spaced e).1) rest stop))
+      (λ y s d clear is. (modified_move at x l.Unless true).beyond s clear is)))
       (λ w y rest c. led_seen l.If w rest (modified_led at x l.If false w y c))
       (no_if at x)
+      (λ y s d clear is. (modified_move at x l.If false).beyond s clear is)
 
   pub tail_follows : (at : ℕ) (x : Tree) → Follows g.goes_simple (Tail T at x) g.goes_stmt
   tail_follows at x w y rest (inl c) stop = led_first false l.If g.goes_simple (λ spaced. refl) w rest (modified_led at x l.If false w y c)
@@ -315,8 +323,8 @@ module _ (effort : Effort) (sure : Type 0) (rec : Wanted → Reader Tree) (S T U
   pub whole_real : (Q : Wanted → Form Tree) → forms.Apart Q within → ((w : List Token) (x : Tree) → Q (Or within false) w x → Settled w) → (at : ℕ) (w : List Token) (x : Tree) → Whole_at Q at w x → w ≡ [] → ⊥
   whole_real Q apart settled at w x c none = simple_real Q apart settled c.0 c.2 c.4 (append_none c.0 c.1 (sym c.3 ∙ none)).0
 
-  modified_moves : (at there : ℕ) (x : Tree) (look : TokenLook) (unless : Bool) (w : List Token) (y : Tree) → Modified S at x look unless w y → (z : Tree) × Modified S there x look unless w z
-  modified_moves at there x look unless w y c =
+  modified_moves : (at there : ℕ) (x : Tree) (modifier : TokenLook) (unless : Bool) (w : List Token) (y : Tree) → Modified S at x modifier unless w y → (z : Tree) × Modified S there x modifier unless w z
+  modified_moves at there x modifier unless w y c =
       let d = c.5 in
       (tree.If there unless d.2 (x ∷ []) [] None, (c.0, c.1, c.2, c.3, c.4, (d.0, d.1, d.2, d.3, d.4, (d.5.0, refl))))
 
@@ -341,5 +349,5 @@ module _ (effort : Effort) (sure : Type 0) (rec : Wanted → Reader Tree) (S T U
       exact_map (gr.stmt S within) (gr.stmt T within) stmt_out stmt_in
       (exact_here (Whole_at S) (Whole_at T) g.goes_stmt _
       (λ at. exact_bind (Tail S at) (Tail T at) g.goes_stmt _ exact_simple (exact_tail at) (λ x. ([], x, inr (inr (refl, refl)))) (tail_follows at))
-      (whole_real S apart_s s_settled) (whole_real T apart_t t_settled)
+      (whole_real S premises.apart_s premises.s_settled) (whole_real T premises.apart_t premises.t_settled)
       (λ at there w y c. let m = tail_moves at there c.2 c.1 y c.5 in (m.0, (c.0, c.1, c.2, c.3, c.4, m.1))))

@@ -9,14 +9,19 @@ use Rattle.cr_grammar.specs.declared.operator.Assignment.{Assignment}
 use Rattle.cr_grammar.specs.declared.tree.Tree.{Tree}
 use Rattle.cr_grammar.specs.declared.tree.Tree.TheVariants as tree
 use Rattle.cr_grammar.specs.declared.within.Within.{Within}
-use Rattle.cr_grammar.specs.Forms.{Form, nothing, ◌>>=◌, ◌>>◌, ◌<|>◌, where_true, passing, maybe, from_first, place_of, word, Word, ident, instance_variable, with_last, last_look, listed}
+use Rattle.cr_grammar.specs.declared.word.Word.{Word}
+use Rattle.cr_grammar.specs.Forms.{Form, nothing, ◌>>=◌, ◌>>◌, ◌<|>◌, where_true, passing, maybe, from_first, place_of, word, ident, instance_variable, with_last, last_look, listed}
 use Rattle.cr_grammar.specs.Operators as o
-use Rattle.cr_grammar.specs.Wanted.{Wanted, Or, Simple, in_object}
+use Rattle.cr_grammar.specs.declared.wanted.Wanted.{Wanted}
+use Rattle.cr_grammar.specs.declared.wanted.Wanted.TheVariants.{Or, Simple}
+use Rattle.cr_grammar.specs.Wanted.{in_object}
 use Rattle.cr_grammar.specs.Laws.{first_is}
 use Rattle.cr_grammar.specs.Expressions as ex
 use Rattle.cr_grammar.specs.Grammar as gr
 use Rattle.cr_grammar.proofs.First as first
-use Rattle.cr_descent.specs.Operand.{Operand, Name, Field, Element, Variable, Yielding, Above, Passing, Whole, whole}
+use Rattle.cr_readers.specs.declared.operand.Operand.{Operand}
+use Rattle.cr_readers.specs.declared.operand.Operand.TheVariants.{Name, Field, Element, Variable, Yielding, Above, Passing, Whole}
+use Rattle.cr_readers.specs.Operand.{whole}
 use Rattle.cr_exact.proofs.Tokens.{by_first}
 use Rattle.cr_exact.proofs.Forms.{made_in, made_out, last_behind, one_real}
 use Rattle.cr_exact.proofs.Heads.{led_at}
@@ -187,8 +192,8 @@ module _ (S : Wanted → Form Tree) (within : Within) where
         let n = made_out ident (λ (name : Word). tree.Call name.at None name.text [] None) a x c in
         begun a b w (Name n.0) y e (apart.name_back a n.0 n.1) (inl (subst (λ v. assigned_rest (place_of w) v o.any_assignment b y) n.2 r))
 
-    field_assigned : (w a b : List Token) (x y : Tree) → w ≡ a ++ b → ex.field S within true a x → assigned_rest (place_of w) x o.any_assignment b y → by_first simple_by w y
-    field_assigned w a b x y e c r =
+    variable_assigned : (w a b : List Token) (x y : Tree) → w ≡ a ++ b → ex.variable S within true a x → assigned_rest (place_of w) x o.any_assignment b y → by_first simple_by w y
+    variable_assigned w a b x y e c r =
         let n = made_out instance_variable (λ (name : Word). tree.InstanceVariable name.at name.text) a x c.1 in
         begun a b w (Variable n.0) y e (apart.variable_back a n.0 (c.0, n.1)) (inl (subst (λ v. assigned_rest (place_of w) v o.any_assignment b y) n.2 r))
 
@@ -204,7 +209,7 @@ module _ (S : Wanted → Form Tree) (within : Within) where
         begun a b w (Element n.0.0 c.2 n.0.1) y e (subst (λ (t : List Token). P t (Element n.0.0 c.2 n.0.1)) (sym c.3) p) (inl (subst (λ v. assigned_rest (place_of w) v o.field_assignment b y) n.2 r))
 
     assignment_in : (w : List Token) (y : Tree) → gr.assignment S within w y → by_first simple_by w y
-    assignment_in w y (inl c) = elim c.4 [ inl d ↦ local_assigned w c.0 c.1 c.2 y c.3 d c.5 | inr d ↦ field_assigned w c.0 c.1 c.2 y c.3 d c.5 ]
+    assignment_in w y (inl c) = elim c.4 [ inl d ↦ local_assigned w c.0 c.1 c.2 y c.3 d c.5 | inr d ↦ variable_assigned w c.0 c.1 c.2 y c.3 d c.5 ]
     assignment_in w y (inr c) = place_assigned w c.0 c.1 c.2 y c.3 c.4 c.5
 
     list_settled : (w : List Token) (xs : List Tree) → listed (S (Or within false)) w xs → Settled w

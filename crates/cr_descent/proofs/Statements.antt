@@ -1,5 +1,6 @@
 -- Statements are read exactly.
 use Rattle.std.proofs.Common.{◌≡◌, ℕ, Bool, true, false, ◌&&◌, ◌||◌, List, [], ◌∷◌, ◌++◌, ◌⊎◌, inl, inr, refl, sym, ap, ◌∙◌}
+use Rattle.std.proofs.lemmas.Bool.{and_left}
 use Rattle.std.specs.Prelude.{not, IsTrue, Option, Some, None, is_some}
 use Rattle.std.proofs.lemmas.List.{append-nil}
 use Rattle.cr_syntax.specs.declared.look.TokenLook.{TokenLook}
@@ -15,18 +16,21 @@ use Rattle.cr_grammar.specs.declared.within.Within.{Within}
 use Rattle.cr_grammar.specs.Forms.{Form, nothing, ◌<|>◌, maybe, listed}
 use Rattle.cr_grammar.specs.Forms as f
 use Rattle.cr_grammar.specs.Operators as o
-use Rattle.cr_grammar.specs.Wanted.{Wanted, Or, Simple}
+use Rattle.cr_grammar.specs.declared.wanted.Wanted.{Wanted}
+use Rattle.cr_grammar.specs.declared.wanted.Wanted.TheVariants.{Or, Simple}
 use Rattle.cr_grammar.specs.Expressions as ex
 use Rattle.cr_grammar.specs.declared.operator.Binary.TheVariants as binary
 use Rattle.cr_grammar.proofs.Derive as derive
-use Rattle.cr_exact.specs.Reader.{Reader, Test, passes, same_look, seen, either, never, take, choose, ◌>>=◌, ◌>>◌, pure, wrap, part}
+use Rattle.cr_readers.specs.Reader.{Reader, Test, passes, same_look, seen, either, never, take, choose, ◌>>=◌, ◌>>◌, pure, wrap, part}
 use Rattle.cr_exact.specs.Exact.{Stops, Effort, Exact, Any}
-use Rattle.cr_descent.specs.Goes as g
-use Rattle.cr_descent.specs.Operand.{Operand, Name, Field, Element, Variable, Yielding, Above, Passing, Whole, whole}
-use Rattle.cr_descent.specs.Statements as statements
-use Rattle.cr_descent.specs.Statements.{assigning_of, is_assigning}
-use Rattle.cr_exact.specs.Lists.{optional}
-use Rattle.cr_descent.specs.Bodies.{doblock}
+use Rattle.cr_readers.specs.Goes as g
+use Rattle.cr_readers.specs.declared.operand.Operand.{Operand}
+use Rattle.cr_readers.specs.declared.operand.Operand.TheVariants.{Name, Field, Element, Variable, Yielding, Above, Passing, Whole}
+use Rattle.cr_readers.specs.Operand.{whole}
+use Rattle.cr_readers.specs.Statements as statements
+use Rattle.cr_readers.specs.Statements.{assigning_of, is_assigning}
+use Rattle.cr_readers.specs.Lists.{optional}
+use Rattle.cr_readers.specs.Bodies.{doblock}
 use Rattle.cr_exact.proofs.TokenTests.{Not, never_stops, Less, Apart, seen_apart}
 use Rattle.cr_exact.proofs.Sequence.{exact_bind, exact_pure, exact_goes, weaken}
 use Rattle.cr_exact.proofs.Tokens.{exact_take, exact_choose, a_token, some_one}
@@ -39,10 +43,17 @@ use Rattle.cr_descent.proofs.OperationForms.{or_rest, sum_rest, shift_rest, cmp_
 use Rattle.cr_descent.proofs.Operated.{Operated, rest_fine, neither, passes_front}
 use Rattle.cr_descent.proofs.StatementForms as forms
 use Rattle.cr_descent.proofs.StatementForms.{bind_settled, listed_settled}
+use Rattle.cr_grammar.specs.Laws.{begins_or}
+use Rattle.cr_descent.proofs.Arguments.{argument_value}
+use Rattle.cr_exact.proofs.Lists.{listed_moves}
+use Rattle.cr_exact.proofs.Moves.{Moves, moves_bind, moves_take, moves_part, advances_bind, advances_choose, advances_next, advances_pure}
+use Rattle.cr_exact.proofs.Sequence.{never_back}
+use Rattle.cr_descent.proofs.Bodies.{doblock_moves}
 use Rattle.cr_descent.proofs.Claims as claims
-use Rattle.cr_descent.proofs.Bodies.{exact_doblock, or_halts}
+use Rattle.cr_descent.proofs.Bodies.{exact_doblock, or_fails}
 use Rattle.cr_descent.proofs.Operations.{exact_or_from}
-use Rattle.cr_exact.proofs.TwoTokens.{Settled, tight_nil, spaced_nil, and_false, exact_unless}
+use Rattle.cr_exact.proofs.TwoTokens.{Settled, tight_nil, spaced_nil, exact_unless}
+use Rattle.cr_descent.proofs.StatementClaims.{Premises}
 
 -- ---- what may follow
 
@@ -111,7 +122,7 @@ pub exact_assigning : (effort : Effort) (table : TokenLook → Option Assignment
 exact_assigning effort table equal h = exact_take effort (Assigning table) h (λ t. assigning_of t (table (look_of t.kind)))
     (λ t x e. assigns_out t (table (look_of t.kind)) x e)
     (λ t x e. ap (assigning_of t) e.0 ∙ ap (λ (n : ℕ). Some (n, x.1)) (sym e.1))
-    (a_token k.Equal) (0, assignments.Plain) (equal, refl)
+    (a_token (k.Plain l.Equal)) (0, assignments.Plain) (equal, refl)
 
 -- ---- what begins an argument, or follows an operand
 
@@ -185,7 +196,7 @@ closed [] stop = refl
 closed (t ∷ []) stop = let e = simple_other (look_of t.kind) t.spaced stop in neither t.spaced _ _ e.0 refl
 closed (t ∷ u ∷ rest) stop =
     let e = simple_other (look_of t.kind) t.spaced stop in
-    neither t.spaced _ _ e.0 (and_false (o.is_minus (look_of t.kind)) t.spaced (not u.spaced) e.1)
+    neither t.spaced _ _ e.0 (and_left (o.is_minus (look_of t.kind) && t.spaced) (not u.spaced) (and_left (o.is_minus (look_of t.kind)) t.spaced e.1))
 
 simple_assigns : (rest : List Token) → Stops g.goes_simple rest → passes (is_assigning o.any_assignment) rest ≡ false
 simple_assigns [] stop = refl
@@ -197,7 +208,7 @@ comma_apart = seen_apart l.Comma (g.goes_or false) (λ spaced. refl)
 
 -- ---- the pieces
 
-module _ (effort : Effort) (rec : Wanted → Reader Tree) (S T : Wanted → Form Tree) (given : claims.Given effort rec S T) (within : Within) where
+module _ {effort : Effort} {rec : Wanted → Reader Tree} {S T : Wanted → Form Tree} (given : claims.Given effort rec S T) (within : Within) where
   abbrev turns : ℕ
   turns = effort.turns
 
@@ -229,7 +240,7 @@ module _ (effort : Effort) (rec : Wanted → Reader Tree) (S T : Wanted → Form
   exact_arguments =
       let some = given.some (Or within false) in
       exact_listed effort (S (Or within false)) (T (Or within false)) (g.goes_or false) (part (rec (Or within false))) (exact_part _ (given.exact (Or within false)))
-      (or_halts effort rec S T given within false l.Newline refl) some.0 some.1 some.2 comma_apart
+      (or_fails given within false l.Newline refl) some.0 some.1 some.2 comma_apart
 
   pub arguments_less : Less goes_arguments g.goes_simple
   arguments_less look spaced e = rw ((simple_word look spaced e).1, simple_or false look spaced e) refl
@@ -263,8 +274,8 @@ module _ (effort : Effort) (rec : Wanted → Reader Tree) (S T : Wanted → Form
   pub exact_command : (make : List Tree → Option Tree → Tree)
       → Exact effort Any (forms.command_rest S within make) (forms.command_rest T within make) g.goes_simple (statements.command turns rec within make)
   exact_command make =
-      let block = exact_optional effort (ex.doblock S within) (ex.doblock T within) never (doblock turns rec within) (exact_doblock effort rec S T given within)
-      (seen l.Do) (λ w x rest c. led_seen l.Do w rest (block_led w x c)) in
+      let block = exact_optional effort (ex.doblock S within) (ex.doblock T within) never (doblock turns rec within) (exact_doblock given within)
+      (seen l.Do) (λ w x rest c. led_seen l.Do w rest (block_led w x c)) (doblock_moves given within) in
       exact_bind (λ xs. f.◌>>=◌ (maybe (ex.doblock S within)) (λ b. nothing (make xs b))) (λ xs. f.◌>>=◌ (maybe (ex.doblock T within)) (λ b. nothing (make xs b))) g.goes_simple
       (λ xs. optional (seen l.Do) (doblock turns rec within) >>= λ b. pure (make xs b))
       exact_arguments
@@ -274,12 +285,23 @@ module _ (effort : Effort) (rec : Wanted → Reader Tree) (S T : Wanted → Form
       (λ xs. spelled_bind (spelled_maybe (ex.doblock S within)) (λ b. spelled_nothing (make xs b)))
       (λ xs. follows_block (make xs))
 
+  pub arguments_move : Moves (λ found _. begins_or within found) (statements.bare_arguments turns rec within)
+  arguments_move = listed_moves (part (rec (Or within false))) (exact_part _ (given.exact (Or within false))) (moves_part (rec (Or within false)) (given.or_moves within false))
+
+  pub passing_moves : (make : List Tree → Tree) → Moves (λ found _. begins_or within found) (statements.passing_on turns rec within make)
+  passing_moves make = moves_bind arguments_move (λ xs. advances_pure (make xs))
+
+  pub command_moves : (make : List Tree → Option Tree → Tree) → Moves (λ found _. begins_or within found) (statements.command turns rec within make)
+  command_moves make =
+      moves_bind arguments_move (λ xs. advances_bind
+      (advances_choose (seen l.Do) (advances_bind (never_back (exact_doblock given within)) (λ b. advances_pure (Some b))) (advances_pure None)) (λ b. advances_pure (make xs b)))
+
   -- ---- what follows an operand
 
   pub exact_operated : (x : Tree × TokenLook) → Exact effort Any (forms.operated S within x) (forms.operated T within x) g.goes_simple (statements.operation_behind turns rec within x)
   exact_operated x =
       exact_bind (λ (y : Tree × TokenLook). nothing y.0) (λ (y : Tree × TokenLook). nothing y.0) g.goes_simple (λ (y : Tree × TokenLook). pure y.0)
-      (exact_goes g.goes_simple (simple_or true) (exact_or_from effort rec S T given within true x))
+      (exact_goes g.goes_simple (simple_or true) (exact_or_from given within true x))
       (λ y. exact_pure effort y.0 g.goes_simple) (λ y. spelled_nothing y.0)
       (λ y. follows_nothing g.goes_simple g.goes_simple y.0 (λ look spaced e. e))
 
@@ -295,14 +317,12 @@ no_sign_here true true false = refl
 no_sign_here true false spaced = refl
 no_sign_here false minus spaced = refl
 
+assigning_read : (t : Token) (found : Option Assignment) → is_some found ≡ true → (x : ℕ × Assignment) × (assigning_of t found ≡ Some x)
+assigning_read t None is = absurd cc
+assigning_read t (Some found) is = (_, refl)
+
 -- Besides T, a second relation U, which is known to spell a `-` before `nil`: it tells that no reader refuses at a `-`.
-module _ (effort : Effort) (sure : Type 0) (rec : Wanted → Reader Tree) (S T U : Wanted → Form Tree) (given : claims.Given effort rec S T)
-    (other : claims.Given (record { deep = sure; turns = effort.turns }) rec S U) (within : Within)
-    (s_settled : (w : List Token) (x : Tree) → S (Or within false) w x → Settled w)
-    (t_settled : (w : List Token) (x : Tree) → T (Or within false) w x → Settled w)
-    (plain : (x : Tree) × S (Or within false) (spaced_nil ∷ []) x)
-    (s_signed : (t : Token) → o.is_minus (look_of t.kind) ≡ true → (x : Tree) × S (Or within false) (t ∷ tight_nil ∷ []) x)
-    (u_signed : (t : Token) → o.is_minus (look_of t.kind) ≡ true → (x : Tree) × U (Or within false) (t ∷ tight_nil ∷ []) x) where
+module _ {effort : Effort} {sure : Type 0} {rec : Wanted → Reader Tree} {S T U : Wanted → Form Tree} {within : Within} (premises : Premises effort sure rec S T U within) where
   abbrev again : Effort
   again = record { deep = sure; turns = effort.turns }
 
@@ -340,18 +360,20 @@ module _ (effort : Effort) (sure : Type 0) (rec : Wanted → Reader Tree) (S T U
       (ks_settled : (w : List Token) (y : Tree) → KS w y → Settled w) (kt_settled : (w : List Token) (y : Tree) → KT w y → Settled w)
       (y0 : Tree) (some : KS (spaced_nil ∷ []) y0)
       (signed : (t : Token) → o.is_minus (look_of t.kind) ≡ true → (y : Tree) × KS (t ∷ tight_nil ∷ []) y)
-      (signed_u : (t : Token) → o.is_minus (look_of t.kind) ≡ true → (y : Tree) × KU (t ∷ tight_nil ∷ []) y) where
+      (signed_u : (t : Token) → o.is_minus (look_of t.kind) ≡ true → (y : Tree) × KU (t ∷ tight_nil ∷ []) y)
+      (moves : Moves (λ found _. begins_or within found) p) where
     exact_or_operated : Exact effort Any (forms.or_operated S within KS x) (forms.or_operated T within KT x) g.goes_simple (statements.unless_operation effort.turns rec within p x)
     exact_or_operated =
         exact_unless effort KS KT (forms.operated S within x) (forms.operated T within x) g.goes_simple p (statements.operation_behind effort.turns rec within x)
-        ek (exact_operated effort rec S T given within x)
+        ek (exact_operated premises.given within x)
         ks_settled kt_settled
         (λ w y c. elim (operated_settled S x w y c) [ inl none ↦ inl none | inr is ↦ inr is.settled ])
         (λ w y c. elim (operated_settled T x w y c) [ inl none ↦ inl none | inr is ↦ inr (is.settled, is.no_argument named) ])
         again KU (forms.operated U within x) g.goes_simple eku
-        (exact_operated again rec S U other within x)
+        (exact_operated premises.other within x)
         signed_u (minus_nil x)
         (spaced_nil ∷ []) y0 some refl signed closed
+        (λ s is clear. moves.beyond s clear (argument_value within s.rest is clear))
 
   -- ---- an operand, and what follows it
 
@@ -386,11 +408,12 @@ module _ (effort : Effort) (sure : Type 0) (rec : Wanted → Reader Tree) (S T U
         let alone : (Q : Wanted → Form Tree) (w : List Token) (y : Tree) → Q (Or within false) w y → forms.command_rest Q within make w (make (y ∷ []) None) =
         λ Q w y c. (w, [], y ∷ [], sym (append-nil w), one_listed (Q (Or within false)) w y c, ([], [], None, refl, refl, (refl, refl))) in
         exact_or_operated x named (forms.command_rest S within make) (forms.command_rest T within make) (forms.command_rest U within make)
-        (statements.command effort.turns rec within make) (exact_command effort rec S T given within make) (exact_command again rec S U other within make)
-        (behind_settled S s_settled (block S)) (behind_settled T t_settled (block T))
-        (make (plain.0 ∷ []) None) (alone S _ plain.0 plain.1)
-        (λ t minus. let y = s_signed t minus in (make (y.0 ∷ []) None, alone S _ y.0 y.1))
-        (λ t minus. let y = u_signed t minus in (make (y.0 ∷ []) None, alone U _ y.0 y.1))
+        (statements.command effort.turns rec within make) (exact_command premises.given within make) (exact_command premises.other within make)
+        (behind_settled S premises.s_settled (block S)) (behind_settled T premises.t_settled (block T))
+        (make (premises.plain.0 ∷ []) None) (alone S _ premises.plain.0 premises.plain.1)
+        (λ t minus. let y = premises.s_signed t minus in (make (y.0 ∷ []) None, alone S _ y.0 y.1))
+        (λ t minus. let y = premises.u_signed t minus in (make (y.0 ∷ []) None, alone U _ y.0 y.1))
+        (command_moves premises.given within make)
 
     passed_on : (make : List Tree → Tree)
         → Exact effort Any (forms.or_operated S within (forms.passing_rest S within make) x) (forms.or_operated T within (forms.passing_rest T within make) x) g.goes_simple
@@ -399,11 +422,17 @@ module _ (effort : Effort) (sure : Type 0) (rec : Wanted → Reader Tree) (S T U
         let alone : (Q : Wanted → Form Tree) (w : List Token) (y : Tree) → Q (Or within false) w y → forms.passing_rest Q within make w (make (y ∷ [])) =
         λ Q w y c. (w, [], y ∷ [], sym (append-nil w), one_listed (Q (Or within false)) w y c, (refl, refl)) in
         exact_or_operated x named (forms.passing_rest S within make) (forms.passing_rest T within make) (forms.passing_rest U within make)
-        (statements.passing_on effort.turns rec within make) (exact_passing_on effort rec S T given within make) (exact_passing_on again rec S U other within make)
-        (behind_settled S s_settled (λ xs. nothing (make xs))) (behind_settled T t_settled (λ xs. nothing (make xs)))
-        (make (plain.0 ∷ [])) (alone S _ plain.0 plain.1)
-        (λ t minus. let y = s_signed t minus in (make (y.0 ∷ []), alone S _ y.0 y.1))
-        (λ t minus. let y = u_signed t minus in (make (y.0 ∷ []), alone U _ y.0 y.1))
+        (statements.passing_on effort.turns rec within make) (exact_passing_on premises.given within make) (exact_passing_on premises.other within make)
+        (behind_settled S premises.s_settled (λ xs. nothing (make xs))) (behind_settled T premises.t_settled (λ xs. nothing (make xs)))
+        (make (premises.plain.0 ∷ [])) (alone S _ premises.plain.0 premises.plain.1)
+        (λ t minus. let y = premises.s_signed t minus in (make (y.0 ∷ []), alone S _ y.0 y.1))
+        (λ t minus. let y = premises.u_signed t minus in (make (y.0 ∷ []), alone U _ y.0 y.1))
+        (passing_moves premises.given within make)
+
+  assignment_moves : (at : ℕ) (target : Tree) (table : TokenLook → Option Assignment) → Moves (is_assigning table) (statements.assignment effort.turns rec within at target table)
+  assignment_moves at target table =
+      moves_bind (moves_take (is_assigning table) (λ t. assigning_of t (table (look_of t.kind))) (λ t full is. assigning_read t (table (look_of t.kind)) is))
+      (λ found. advances_next (silent_wrap found.0) (advances_bind (never_back (exact_part _ (premises.given.exact (Simple within)))) (λ value. advances_pure _)))
 
   -- an assignment, or else what begins otherwise
   assigned_or : (at : ℕ) (target : Tree) (table : TokenLook → Option Assignment) → table l.Equal ≡ Some assignments.Plain → (Q D : Form Tree) (q : Reader Tree)
@@ -414,7 +443,8 @@ module _ (effort : Effort) (sure : Type 0) (rec : Wanted → Reader Tree) (S T U
   assigned_or at target table equal Q D q eq others =
       exact_choose effort (is_assigning table) (forms.assigned_rest S within at target table) (forms.assigned_rest T within at target table) Q D g.goes_simple
       (statements.assignment effort.turns rec within at target table) q
-      (weaken _ (exact_assignment effort rec S T given within at target table equal)) (weaken _ eq) (assigned_heads at target table) others
+      (weaken _ (exact_assignment premises.given within at target table equal)) (weaken _ eq) (assigned_heads at target table) others
+      (λ y s d clear is. (assignment_moves at target table).beyond s clear is)
 
   pub exact_behind : (at : ℕ) (x : Operand × TokenLook) → Exact effort Any (forms.behind S within at x) (forms.behind T within at x) g.goes_simple (statements.behind effort.turns rec within at x)
   exact_behind at (Name name, seen) =
@@ -424,12 +454,12 @@ module _ (effort : Effort) (sure : Type 0) (rec : Wanted → Reader Tree) (S T U
       assigned_or at (whole (Field x name)) o.field_assignment refl _ _ _ (commanded (whole (Field x name), l.Ident) refl (forms.call_of T within (Some x) name))
       (λ w y rest c stop. field_assigns (w ++ rest) (or_assigns (forms.command_rest T within (forms.call_of T within (Some x) name)) (whole (Field x name), l.Ident) w y rest c stop))
   exact_behind at (Element place x xs, seen) =
-      assigned_or at (whole (Element place x xs)) o.field_assignment refl _ _ _ (exact_operated effort rec S T given within (whole (Element place x xs), seen))
+      assigned_or at (whole (Element place x xs)) o.field_assignment refl _ _ _ (exact_operated premises.given within (whole (Element place x xs), seen))
       (λ w y rest c stop. field_assigns (w ++ rest) (operated_assigns (whole (Element place x xs), seen) w y rest c stop))
   exact_behind at (Variable name, seen) =
-      assigned_or at (whole (Variable name)) o.any_assignment refl _ _ _ (exact_operated effort rec S T given within (whole (Variable name), seen))
+      assigned_or at (whole (Variable name)) o.any_assignment refl _ _ _ (exact_operated premises.given within (whole (Variable name), seen))
       (operated_assigns (whole (Variable name), seen))
   exact_behind at (Yielding place, seen) = passed_on (whole (Yielding place), l.Yield) refl (λ xs. tree.Yield place xs)
   exact_behind at (Above place, seen) = passed_on (whole (Above place), l.Super) refl (λ xs. tree.Super place xs)
-  exact_behind at (Passing name x value, seen) = exact_operated effort rec S T given within (whole (Passing name x value), seen)
-  exact_behind at (Whole x, seen) = exact_operated effort rec S T given within (x, seen)
+  exact_behind at (Passing name x value, seen) = exact_operated premises.given within (whole (Passing name x value), seen)
+  exact_behind at (Whole x, seen) = exact_operated premises.given within (x, seen)

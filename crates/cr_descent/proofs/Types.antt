@@ -4,17 +4,21 @@ use Rattle.cr_syntax.specs.declared.look.TokenLook.TheVariants as l
 use Rattle.cr_syntax.specs.declared.token.TokenKind.TheVariants as k
 use Rattle.cr_grammar.specs.declared.tree.Tree.{Tree}
 use Rattle.cr_grammar.specs.declared.tree.Tree.TheVariants as tree
-use Rattle.cr_grammar.specs.Forms.{Form, Word}
+use Rattle.cr_grammar.specs.declared.word.Word.{Word}
+use Rattle.cr_grammar.specs.Forms.{Form}
 use Rattle.cr_grammar.specs.Forms as f
-use Rattle.cr_grammar.specs.Wanted.{Wanted, Written}
+use Rattle.cr_grammar.specs.declared.wanted.Wanted.{Wanted}
+use Rattle.cr_grammar.specs.declared.wanted.Wanted.TheVariants.{Written}
 use Rattle.cr_grammar.specs.Laws.{begins_type}
+use Rattle.cr_grammar.specs.declared.word.Atom.{Atom}
+use Rattle.cr_grammar.specs.declared.word.Path.{Path}
 use Rattle.cr_grammar.specs.Expressions as ex
-use Rattle.cr_exact.specs.Reader.{Reader, Test, seen, tight_seen, same_look, either, never, expect, choose, many, pure, grow, part, beside, ◌>>◌}
-use Rattle.cr_exact.specs.Lists.{listed, parenthesized}
+use Rattle.cr_readers.specs.Reader.{Reader, Test, seen, tight_seen, same_look, either, never, expect, choose, many, pure, grow, part, beside, ◌>>◌}
+use Rattle.cr_readers.specs.Lists.{listed, parenthesized}
 use Rattle.cr_exact.specs.Exact.{at, Effort, Exact, Any}
-use Rattle.cr_descent.specs.Words.{constant}
-use Rattle.cr_descent.specs.Goes.{goes_type}
-use Rattle.cr_descent.specs.Types as types
+use Rattle.cr_readers.specs.Words.{constant}
+use Rattle.cr_readers.specs.Goes.{goes_type}
+use Rattle.cr_readers.specs.Types as types
 use Rattle.cr_exact.proofs.TokenTests.{same_look_is, Not, less_seen, not_tight_seen, Less, less_right, less_left, less_never, look_apart, less_tight_seen, not_either, less_either}
 use Rattle.cr_exact.proofs.Sequence.{exact_bind, exact_pure, exact_map, exact_goes, weaken}
 use Rattle.cr_exact.proofs.Tokens.{exact_word}
@@ -24,6 +28,9 @@ use Rattle.cr_exact.proofs.Follows.{follows_many, follows_bind, follows_maybe, f
 use Rattle.cr_exact.proofs.Loops.{exact_many}
 use Rattle.cr_exact.proofs.Nodes.{IsSilent, exact_silent, silent_grow, exact_part, exact_beside, silent_pure, silent_beside}
 use Rattle.cr_exact.proofs.Lists.{tight_parenthesized, tight_heads, exact_listed, exact_maybe_word}
+use Rattle.cr_exact.proofs.Lists.{parenthesized_moves}
+use Rattle.cr_exact.proofs.Moves.{moves_bind, moves_word, moves_tight}
+use Rattle.cr_exact.proofs.Sequence.{never_back}
 use Rattle.cr_exact.proofs.Steps.{reads_or_nothing}
 use Rattle.cr_descent.proofs.Words.{exact_constant}
 use Rattle.cr_descent.proofs.Claims as claims
@@ -37,23 +44,24 @@ pub exact_tight_or : {effort : Effort} {A : Type 0} {R C : Form A} {g : Test} {p
     (choose (tight_seen l.OpenParenthesis) (parenthesized effort.turns p) (pure x))
 exact_tight_or {effort = effort} {R = R} {C = C} {g = g} {p = p} x lineless some line close ep =
     (reads_or_nothing (tight_seen l.OpenParenthesis) x (record { first = tight_heads l.OpenParenthesis (f.parenthesized C) (led_heads l.OpenParenthesis _) })
-    (tight_parenthesized effort R C g p ep lineless some.0 some.1 some.2 line close)).0
+    (tight_parenthesized effort R C g p ep lineless some.0 some.1 some.2 line close)
+    (moves_tight l.OpenParenthesis (parenthesized_moves effort R C g p ep))).0
 
 -- ---- types
 
 abbrev pub one_more : Form Word
 one_more = f.◌>>◌ (f.word l.ColonColon) f.constant
 
-abbrev pub path_of : Word → List Word → ex.Path
+abbrev pub path_of : Word → List Word → Path
 path_of first more = record { at = first.at; names = first.text ∷ map (λ (x : Word). x.text) more }
 
-abbrev pub rest_of : Word → Form ex.Path
+abbrev pub rest_of : Word → Form Path
 rest_of first = f.◌>>=◌ (f.many one_more) (λ more. f.nothing (path_of first more))
 
 constant_some : Spelled f.constant
 constant_some = spelled_held (λ text. k.Constant text)
 
-module _ (effort : Effort) (rec : Wanted → Reader Tree) (S T : Wanted → Form Tree) (given : claims.Given effort rec S T) where
+module _ {effort : Effort} {rec : Wanted → Reader Tree} {S T : Wanted → Form Tree} (given : claims.Given effort rec S T) where
   abbrev pub goes_path : Test
   goes_path = either (seen l.ColonColon) never
 
@@ -63,9 +71,10 @@ module _ (effort : Effort) (rec : Wanted → Reader Tree) (S T : Wanted → Form
       (λ first. exact_silent (grow first.at) (silent_grow first.at) _
       (exact_bind (λ more. f.nothing (path_of first more)) (λ more. f.nothing (path_of first more)) goes_path _
       (exact_many effort (seen l.ColonColon) never (λ look spaced e. refl) one_more one_more (expect l.ColonColon >> constant)
-      (weaken _ (exact_bind (λ _. f.constant) (λ _. f.constant) never _ (exact_word effort k.ColonColon never)
+      (weaken _ (exact_bind (λ _. f.constant) (λ _. f.constant) never _ (exact_word effort (k.Plain l.ColonColon) never)
       (λ _. exact_constant effort never) (λ _. constant_some) (λ x. follows_never f.constant never)))
-      (λ w x rest c. led_seen l.ColonColon w rest (led_at l.ColonColon w c.0 c.1 c.2 c.3 c.4)))
+      (λ w x rest c. led_seen l.ColonColon w rest (led_at l.ColonColon w c.0 c.1 c.2 c.3 c.4))
+      (moves_bind (moves_word l.ColonColon) (λ _. never_back (exact_constant effort never))))
       (λ more. exact_pure effort (path_of first more) goes_path)
       (λ more. spelled_nothing (path_of first more))
       (λ more. follows_nothing goes_path goes_path (path_of first more) (λ look spaced e. e))))
@@ -99,7 +108,7 @@ module _ (effort : Effort) (rec : Wanted → Reader Tree) (S T : Wanted → Form
   abbrev pub goes_atom : Test
   goes_atom = either goes_path (either (tight_seen l.OpenParenthesis) goes_question)
 
-  pub question_follows : (g : Test) → g l.Question false ≡ false → Less g goes_atom → (make : Option ℕ → ex.Atom)
+  pub question_follows : (g : Test) → g l.Question false ≡ false → Less g goes_atom → (make : Option ℕ → Atom)
       → Follows g (f.◌>>=◌ (f.maybe (f.tight (f.word l.Question))) (λ question. f.nothing (make question))) goes_atom
   question_follows g is less make =
       follows_bind g goes_atom _ _
@@ -117,10 +126,10 @@ module _ (effort : Effort) (rec : Wanted → Reader Tree) (S T : Wanted → Form
   arguments_some true = ([], [], inr (refl, refl))
   arguments_some false = spelled_nothing []
 
-  abbrev pub atom_of : ex.Path → List Tree → Option ℕ → ex.Atom
+  abbrev pub atom_of : Path → List Tree → Option ℕ → Atom
   atom_of path arguments question = record { path = path; arguments = arguments; question = question }
 
-  question_some : (path : ex.Path) (arguments : List Tree)
+  question_some : (path : Path) (arguments : List Tree)
       → Spelled (f.◌>>=◌ (f.maybe (f.tight (f.word l.Question))) (λ question. f.nothing (atom_of path arguments question)))
   question_some path arguments = spelled_bind (spelled_maybe _) (λ question. spelled_nothing (atom_of path arguments question))
 
@@ -129,7 +138,7 @@ module _ (effort : Effort) (rec : Wanted → Reader Tree) (S T : Wanted → Form
   exact_atom_alone with_arguments =
       exact_bind _ _ goes_atom _ exact_path
       (λ path. exact_bind _ _ goes_atom _ (exact_type_arguments with_arguments)
-      (λ arguments. exact_bind _ _ goes_atom _ (exact_maybe_word effort k.Question)
+      (λ arguments. exact_bind _ _ goes_atom _ (exact_maybe_word effort (k.Plain l.Question))
       (λ question. exact_pure effort (atom_of path arguments question) goes_atom)
       (λ question. spelled_nothing (atom_of path arguments question))
       (λ question. follows_nothing goes_question goes_atom (atom_of path arguments question)
@@ -170,7 +179,7 @@ module _ (effort : Effort) (rec : Wanted → Reader Tree) (S T : Wanted → Form
       (λ atom. spelled_nothing atom)
       (λ atom. follows_nothing goes_atom goes_atom atom (λ look spaced e. e)))
 
-  abbrev pub one_atom : (Wanted → Form Tree) → Bool → Form ex.Atom
+  abbrev pub one_atom : (Wanted → Form Tree) → Bool → Form Atom
   one_atom Q with_arguments = f.◌>>◌ (f.word l.Pipe) (ex.atom Q with_arguments)
 
   abbrev pub goes_union : Test
@@ -188,10 +197,10 @@ module _ (effort : Effort) (rec : Wanted → Reader Tree) (S T : Wanted → Form
       (not_either l.Pipe (tight_seen l.OpenParenthesis) goes_question (not_tight_seen l.Pipe l.OpenParenthesis refl)
       (not_either l.Pipe (tight_seen l.Question) never (not_tight_seen l.Pipe l.Question refl) (λ spaced. refl)))
 
-  abbrev union_of : ex.Atom → List ex.Atom → Tree
+  abbrev union_of : Atom → List Atom → Tree
   union_of first more = tree.Union (ex.all_atoms (first ∷ more))
 
-  abbrev pub rest_of_union : (Wanted → Form Tree) → Bool → ex.Atom → Form Tree
+  abbrev pub rest_of_union : (Wanted → Form Tree) → Bool → Atom → Form Tree
   rest_of_union Q with_arguments first = f.◌>>=◌ (f.many (one_atom Q with_arguments)) (λ more. f.nothing (union_of first more))
 
   exact_atoms : (with_arguments : Bool) → Exact effort Any (f.many (one_atom S with_arguments)) (f.many (one_atom T with_arguments)) goes_union
@@ -200,10 +209,11 @@ module _ (effort : Effort) (rec : Wanted → Reader Tree) (S T : Wanted → Form
   exact_atoms with_arguments =
       exact_many effort (seen l.Pipe) goes_atom (λ look spaced is. rw (same_look_is look l.Pipe is) (pipe_stops spaced))
       (one_atom S with_arguments) (one_atom T with_arguments) (expect l.Pipe >> beside (types.type_atom effort.turns rec with_arguments))
-      (weaken _ (exact_bind (λ _. ex.atom S with_arguments) (λ _. ex.atom T with_arguments) goes_atom _ (exact_word effort k.Pipe never)
+      (weaken _ (exact_bind (λ _. ex.atom S with_arguments) (λ _. ex.atom T with_arguments) goes_atom _ (exact_word effort (k.Plain l.Pipe) never)
       (λ _. exact_beside (types.type_atom effort.turns rec with_arguments) (exact_type_atom with_arguments))
       (λ _. atom_some with_arguments) (λ _. follows_never (ex.atom T with_arguments) goes_atom)))
       (λ w x rest c. led_seen l.Pipe w rest (led_at l.Pipe w c.0 c.1 c.2 c.3 c.4))
+      (moves_bind (moves_word l.Pipe) (λ _. never_back (exact_beside (types.type_atom effort.turns rec with_arguments) (exact_type_atom with_arguments))))
 
   pub exact_written : claims.TypeWritten effort rec S T
   unfolding same_look

@@ -7,9 +7,15 @@ use Rattle.cr_syntax.specs.declared.token.TokenKind.TheVariants as k
 use Rattle.cr_grammar.specs.declared.tree.Tree.{Tree}
 use Rattle.cr_grammar.specs.declared.tree.Tree.TheVariants as tree
 use Rattle.cr_grammar.specs.Forms as f
-use Rattle.cr_exact.specs.Reader.{Test, holder, place_if}
+use Rattle.cr_readers.specs.Reader.{Test, holder, place_if}
 use Rattle.cr_exact.specs.Exact.{Effort, Exact, Any}
-use Rattle.cr_descent.specs.Words.{ident_text, constant_text, variable_text, whole_text, first_text, middle_text, last_text, ident, constant, instance_variable, is_ident, exactly_ident, number_of, number}
+use Rattle.cr_readers.specs.Words.{ident_text, constant_text, variable_text, whole_text, first_text, middle_text, last_text, ident, constant, instance_variable, is_ident, exactly_ident, number_of, number}
+use Rattle.std.proofs.Common.{false}
+use Rattle.cr_syntax.specs.declared.look.TokenLook.TheVariants as l
+use Rattle.cr_syntax.specs.Look.{look_of}
+use Rattle.cr_readers.specs.Reader.{seen, same_look, worded}
+use Rattle.cr_exact.specs.Exact.{hollow}
+use Rattle.cr_exact.proofs.Moves.{Moves, moves_take}
 use Rattle.cr_exact.proofs.Tokens.{exact_take, exact_holder, a_token, some_one, place_out}
 
 -- ---- names and texts
@@ -64,6 +70,28 @@ number_out t other is x e = absurd cc
 number_back : (t : Token) (x : ℕ × Tree) → Number t x → number_of t t.kind ≡ Some x
 number_back t x (at, inl c) = ap (number_of t) c.1 ∙ ap Some (λ i. (sym at i, sym c.2 i))
 number_back t x (at, inr c) = ap (number_of t) c.1 ∙ ap Some (λ i. (sym at i, sym c.2 i))
+
+-- ---- a token that holds a text, by its look
+
+middle_read : (v : TokenKind) → hollow v ≡ false → same_look (look_of v) l.TextMiddle ≡ true → (text : List ℕ) × (middle_text v ≡ Some text)
+unfolding same_look
+middle_read (k.TextMiddle text) full is = (text, refl)
+middle_read (k.Plain l.TextMiddle) full is = absurd cc
+middle_read other full is = absurd cc
+
+pub middle_moves : Moves (seen l.TextMiddle) (holder middle_text)
+middle_moves =
+    moves_take (seen l.TextMiddle) (λ t. worded t (middle_text t.kind)) (λ t full is. let r = middle_read t.kind full is in (record { at = t.span.first; text = r.0 }, ap (worded t) r.1))
+
+variable_read : (v : TokenKind) → hollow v ≡ false → same_look (look_of v) l.InstanceVariable ≡ true → (text : List ℕ) × (variable_text v ≡ Some text)
+unfolding same_look
+variable_read (k.InstanceVariable text) full is = (text, refl)
+variable_read (k.Plain l.InstanceVariable) full is = absurd cc
+variable_read other full is = absurd cc
+
+pub variable_moves : Moves (seen l.InstanceVariable) instance_variable
+variable_moves =
+    moves_take (seen l.InstanceVariable) (λ t. worded t (variable_text t.kind)) (λ t full is. let r = variable_read t.kind full is in (record { at = t.span.first; text = r.0 }, ap (worded t) r.1))
 
 module _ (effort : Effort) (g : Test) where
   pub exact_ident : Exact effort Any f.ident f.ident g ident

@@ -1,14 +1,16 @@
 -- What holds of the grammar and its readers: one tree at most, the first unexpected token, the longest front.
-use Rattle.std.specs.Prelude.{◌≡◌, ◌≤◌, ◌<◌, ℕ, suc, false, List, [], ◌++◌, length}
+use Rattle.std.specs.Prelude.{◌≡◌, ◌≤◌, ◌<◌, ℕ, suc, false, List, [], ◌∷◌, ◌++◌, length, Some}
 use Rattle.cr_syntax.specs.declared.token.Token.{Token}
 use Rattle.cr_grammar.specs.declared.tree.Tree.{Tree}
-use Rattle.cr_grammar.specs.Wanted.{Wanted}
+use Rattle.cr_grammar.specs.declared.wanted.Wanted.{Wanted}
 use Rattle.cr_grammar.specs.Grammar.{Spells, Spells_in}
-use Rattle.cr_exact.specs.declared.fault.ParseFault.TheVariants.{Unexpected}
-use Rattle.cr_exact.specs.Reader.{State, Found, Failed, place_at}
+use Rattle.cr_readers.specs.declared.fault.ParseFault.TheVariants.{Unexpected}
+use Rattle.cr_readers.specs.Reader.{State, Found, Failed, place_at}
 use Rattle.cr_exact.specs.Exact.{head, Effort, Exact, Any}
-use Rattle.cr_descent.specs.Goes.{goes_of}
-use Rattle.cr_descent.specs.Descent.{read}
+use Rattle.cr_exact.specs.Exact.{Clear}
+use Rattle.cr_grammar.specs.declared.wanted.Wanted.TheVariants.{When, Simple, Stmt, Stmts}
+use Rattle.cr_readers.specs.Goes.{goes_of}
+use Rattle.cr_readers.specs.Descent.{read}
 
 -- what a reader of so many turns and so deep has to go on for what is spelled with so many constructs in one another
 abbrev pub effort_of : ℕ → ℕ → ℕ → Effort
@@ -23,7 +25,16 @@ ReadersAreExact = (turns n m : ℕ) (wanted : Wanted) → Exact (effort_of turns
 abbrev pub AtMostOneTree : Type 0
 AtMostOneTree = (wanted : Wanted) (w : List Token) (x y : Tree) → Spells wanted w x → Spells wanted w y → x ≡ y
 
--- The tokens before the place begin a spelled list, and with the token at it they begin none.
+-- What comes tells whether more is wanted: behind a value, a type or a program anything does, and behind a statement a clear token.
+abbrev pub Tells : Wanted → List Token → Type 0
+Tells (When within free) rest = Clear rest
+Tells (Simple within) rest = Clear rest
+Tells (Stmt within) rest = Clear rest
+Tells (Stmts within) rest = Clear rest
+Tells other rest = Unit {0}
+
+-- The tokens before the place begin a spelled list, and with the token at it they begin none. They are none themselves, unless they are
+-- statements before a token that tells nothing.
 pub record IsFirstUnexpected (wanted : Wanted) (list : List Token) (place : ℕ) : Type 0 where
   pub front : List Token
   pub rest : List Token
@@ -32,20 +43,22 @@ pub record IsFirstUnexpected (wanted : Wanted) (list : List Token) (place : ℕ)
   pub more : List Token
   pub value : Tree
   pub alive : Spells wanted (front ++ more) value
+  pub unfinished : Tells wanted rest → (x : Tree) → Spells wanted front x → ⊥
   pub dead : (other : List Token) (x : Tree) → head other ≡ head rest → Spells wanted (front ++ other) x → ⊥
 
 -- An unexpected token is the first with which no spelled list begins.
 abbrev pub FaultsAreFirst : Type 0
 FaultsAreFirst = (turns n : ℕ) (wanted : Wanted) (s s' : State) (place : ℕ) → read turns n wanted s ≡ Failed (Unexpected place) s' → IsFirstUnexpected wanted s.rest place
 
--- The front is spelled, and no longer one is.
+-- The front is spelled, no longer front of the list spells anything, and with the next token it begins no spelled list.
 pub record IsLongest (wanted : Wanted) (list : List Token) (x : Tree) (rest : List Token) : Type 0 where
   pub front : List Token
   pub parts : list ≡ front ++ rest
   pub spelled : Spells wanted front x
   pub longest : (w behind : List Token) (y : Tree) → list ≡ w ++ behind → Spells wanted w y → length w ≤ length front
+  pub dead : (t : Token) (u : List Token) (y : Tree) → head rest ≡ Some t → Spells wanted (front ++ t ∷ u) y → ⊥
 
--- What is found is spelled by the longest front that spells anything.
+-- What is found is spelled by the longest front, of the tokens that were left, that spells anything.
 abbrev pub FoundIsLongest : Type 0
 FoundIsLongest = (turns n : ℕ) (wanted : Wanted) (s s' : State) (x : Tree) → read turns n wanted s ≡ Found x s' → IsLongest wanted s.rest x s'.rest
 

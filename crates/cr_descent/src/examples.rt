@@ -8,7 +8,7 @@ pub fn targets_alone_are_assigned()
 {}
 
 /// Behind a name a spaced `-` with a tight token behind it begins an argument. Where no command can stand, as in `f(x -y)`,
-/// `a + b -c` and `A.new -y`, that token is refused, and so is a line feed there. A number with its sign is no operation
+/// `a + b -c` and `A.new -y`, that token is refused, and so is a line feed there. A number with its `-` is no operation
 /// either.
 pub fn signs_begin_arguments_alone()
     ensures { Refused no_signs }
@@ -106,7 +106,7 @@ pub fn lists_and_ends_are_whole()
 
 /// Tuples, named tuples, ranges, procs, constants, class methods, arguments by name, default and splat parameters, initial
 /// values, generic modules and superclasses, `?:`, `<=>`, `**`, `&&=` and `break` with a value are refused.
-pub fn left_out_forms_are_refused()
+pub fn left_out_constructs_are_refused()
     ensures { Refused left_out }
 {}
 
@@ -115,7 +115,7 @@ pub fn reserved_words_are_refused()
     ensures { Refused reserved }
 {}
 
-/// 200 brackets that open and none that closes are refused at the end.
+/// As many brackets that open as may nest, and none that closes, are refused at the end.
 pub fn brackets_open_without_end()
     ensures { Refused open_brackets }
 {}

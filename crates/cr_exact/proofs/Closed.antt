@@ -7,16 +7,18 @@ use Rattle.cr_syntax.specs.declared.token.TokenKind.{TokenKind}
 use Rattle.cr_syntax.specs.Look.{look_of}
 use Rattle.cr_grammar.specs.Forms.{Form, nothing, ◌<|>◌, or_none, word}
 use Rattle.cr_grammar.specs.Forms as f
-use Rattle.cr_exact.specs.Reader.{State, Outcome, Found, Failed, Reader, Test, and_then, passes, seen, never, expect, choose, pure, ◌>>=◌, ◌>>◌}
-use Rattle.cr_exact.specs.Lists.{unless_closed, separators}
+use Rattle.cr_readers.specs.Reader.{State, Outcome, Found, Failed, Reader, Test, and_then, passes, seen, never, expect, choose, pure, ◌>>=◌, ◌>>◌}
+use Rattle.cr_readers.specs.Lists.{unless_closed, separators}
 use Rattle.cr_exact.specs.Exact.{Effort, Exact, Any, Stops}
 use Rattle.cr_exact.proofs.TokenTests.{Not, never_stops, not_seen}
 use Rattle.cr_exact.proofs.Sequence.{exact_bind, exact_pure, exact_map, weaken}
 use Rattle.cr_exact.proofs.Tokens.{a_token, exact_choose}
 use Rattle.cr_exact.proofs.Forms.{bind_out, bind_in, Spelled, no_seps, seps_append, unit_out}
-use Rattle.cr_exact.proofs.Heads.{NoLine, Halts, led_seen, LedBy, first_bind, led_heads, first_led}
+use Rattle.cr_exact.proofs.Heads.{NoLine, Fails, led_seen, LedBy, first_bind, led_heads, first_led}
 use Rattle.cr_exact.proofs.Follows.{follows_led, follows_never}
-use Rattle.cr_exact.proofs.Lists.{exact_separators, closed, read_closed, some_closed, closed_halts, exact_closed}
+use Rattle.cr_exact.proofs.Forms.{append_none, one_real}
+use Rattle.cr_exact.proofs.Heads.{led_real}
+use Rattle.cr_exact.proofs.Lists.{exact_separators, closed, read_closed, some_closed, closed_fails, exact_closed}
 
 -- ---- one reader after the other
 
@@ -112,7 +114,7 @@ module _ {A B : Type 0} (Q : Form (List A)) (N : List A → Form B) where
 
 pub exact_or_closed : {effort : Effort} {A B : Type 0} (kind : TokenKind) (R C : Form (List A)) (g : Test) (p : Reader (List A)) (K D : List A → Form B) (h : Test) (k : List A → Reader B)
     → Exact effort Any R C g p → ((xs : List A) → Exact effort Any (K xs) (D xs) h (k xs)) → ((xs : List A) → Spelled (K xs))
-    → ((xs : List A) → LedBy (look_of kind) (D xs)) → Not (look_of kind) g → Halts (seen (look_of kind)) C
+    → ((xs : List A) → LedBy (look_of kind) (D xs)) → Not (look_of kind) g → Fails (seen (look_of kind)) C
     → Exact effort Any (f.◌>>=◌ (f.or_none R) K) (f.◌>>=◌ (f.or_none C) D) h (unless_closed (look_of kind) p >>= k)
 exact_or_closed {effort = effort} kind R C g p K D h k ep eq some closes stops ahead =
     exact_same (choose (seen (look_of kind)) (k []) (p >>= k)) (unless_closed (look_of kind) p >>= k)
@@ -122,9 +124,15 @@ exact_or_closed {effort = effort} kind R C g p K D h k ep eq some closes stops a
     (weaken _ (eq []))
     (weaken _ (exact_bind K D h k ep eq some (λ xs. follows_led (look_of kind) g h (D xs) stops (closes xs))))
     (λ w y rest d. led_seen (look_of kind) w rest (closes [] w y d))
-    (λ w y rest d stop. first_bind false (seen (look_of kind)) C D ahead w y rest d)))
+    (λ w y rest d stop. first_bind false (seen (look_of kind)) C D ahead w y rest d)
+    (λ y s d clear is. absurd (led_real (look_of kind) d.1 (closes d.2 d.1 y d.5) (append_none d.0 d.1 (sym d.3)).1))))
 
 -- ---- separators, [ R ], separators and a closing token
+
+closed_real : {A : Type 0} (close : TokenLook) (x : A) (w : List Token) (y : A) → closed close x w y → w ≡ [] → ⊥
+closed_real _ x w y c none =
+    let word_none = append_none c.0 c.1 (sym c.3 ∙ none) in
+    one_real c.5.0 c.5.4.0 c.5.4.1 (append_none c.5.0 c.5.1 (sym c.5.3 ∙ word_none.1)).0
 
 module _ (effort : Effort) {A : Type 0} (R C : Form (List A)) (g : Test) (p : Reader (List A)) (ep : Exact effort Any R C g p)
     (lineless : NoLine C) (line : Not l.Newline g) where
@@ -151,9 +159,9 @@ module _ (effort : Effort) {A : Type 0} (R C : Form (List A)) (g : Test) (p : Re
     inl (subst (λ v. f.◌>>=◌ (word close) (λ _. nothing v) end.1 xs) none.1 end.5),
   )
 
-  pub once_halts : (close : TokenLook) → (close ≡ l.Newline → ⊥) → (w : List Token) (xs : List A) (rest : List Token) → at_once close C w xs → Stops (seen l.Newline) (w ++ rest)
-  once_halts close other w xs rest (inl c) = first_led false close (seen l.Newline) (λ _. nothing []) (not_seen _ _ other) w xs rest c
-  once_halts close other w xs rest (inr c) = first_bind false (seen l.Newline) C (λ ys. closed close ys) lineless w xs rest c
+  pub once_fails : (close : TokenLook) → (close ≡ l.Newline → ⊥) → (w : List Token) (xs : List A) (rest : List Token) → at_once close C w xs → Stops (seen l.Newline) (w ++ rest)
+  once_fails close other w xs rest (inl c) = first_led false close (seen l.Newline) (λ _. nothing []) (not_seen _ _ other) w xs rest c
+  once_fails close other w xs rest (inr c) = first_bind false (seen l.Newline) C (λ ys. closed close ys) lineless w xs rest c
 
   -- separators, [ R ], separators and a closing token, behind the opening token
   pub exact_or_none : (kind : TokenKind) → Not (look_of kind) g → (look_of kind ≡ l.Newline → ⊥)
@@ -182,8 +190,9 @@ module _ (effort : Effort) {A : Type 0} (R C : Form (List A)) (g : Test) (p : Re
       (λ xs. exact_closed effort kind xs other) (λ xs. (a_token kind ∷ [], xs, some_closed kind xs)) (λ xs b y rest d stop. never_stops (b ++ rest)))))
       (weaken _ (exact_bind (λ xs. closed look xs) (λ xs. closed look xs) never k ep
       (λ xs. exact_closed effort kind xs other) (λ xs. (a_token kind ∷ [], xs, some_closed kind xs))
-      (λ xs b y rest d stop. closed_halts g look xs line close b y rest d)))
+      (λ xs b y rest d stop. closed_fails g look xs line close b y rest d)))
       (led_heads look (λ _. nothing []))
-      (λ w xs rest d stop. first_bind false (seen look) C (λ ys. closed look ys) apart w xs rest d)))
+      (λ w xs rest d stop. first_bind false (seen look) C (λ ys. closed look ys) apart w xs rest d)
+      (λ xs s d clear is. absurd (closed_real look d.2 d.1 xs d.5 (append_none d.0 d.1 (sym d.3)).1))))
       (λ _. (a_token kind ∷ [], [], inl ([], a_token kind ∷ [], [], refl, (refl, refl), some_closed kind [])))
-      (λ u b y rest d stop. once_halts look other b y rest d))
+      (λ u b y rest d stop. once_fails look other b y rest d))

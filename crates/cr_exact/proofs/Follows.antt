@@ -3,10 +3,10 @@ use Rattle.std.proofs.Common.{◌≡◌, false, List, [], ◌∷◌, ◌++◌, S
 use Rattle.cr_syntax.specs.declared.look.TokenLook.{TokenLook}
 use Rattle.cr_syntax.specs.declared.token.Token.{Token}
 use Rattle.cr_grammar.specs.Forms.{Form, nothing, ◌>>=◌, ◌<|>◌, maybe, many, tight}
-use Rattle.cr_exact.specs.Reader.{Test, never}
+use Rattle.cr_readers.specs.Reader.{Test, never}
 use Rattle.cr_exact.specs.Exact.{Stops}
 use Rattle.cr_exact.proofs.TokenTests.{Not, Less, stops_less, never_stops}
-use Rattle.cr_exact.proofs.Heads.{LedBy, Halts, front_of, led_first, led_tight_first}
+use Rattle.cr_exact.proofs.Heads.{LedBy, Fails, front_of, led_first, led_tight_first}
 
 -- Where what follows stops h, D before it stops g.
 abbrev pub Follows : {A : Type 0} → Test → Form A → Test → Type 0
@@ -19,7 +19,7 @@ follows_led look g h D is lead b y rest d stop = led_first false look g is b res
 pub follows_never : {A : Type 0} (D : Form A) (h : Test) → Follows never D h
 follows_never D h b y rest d stop = never_stops (b ++ rest)
 
-pub follows_ahead : {A : Type 0} (g h : Test) (D : Form A) → Halts g D → Follows g D h
+pub follows_ahead : {A : Type 0} (g h : Test) (D : Form A) → Fails g D → Follows g D h
 follows_ahead g h D ahead b y rest d stop = ahead b y rest d
 
 pub follows_nothing : {A : Type 0} (g h : Test) (x : A) → Less g h → Follows g (nothing x) h

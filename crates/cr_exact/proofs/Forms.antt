@@ -1,5 +1,6 @@
 -- Forms alone: what holds of how they are put together, and what some list spells.
 use Rattle.std.proofs.Common.{◌≡◌, ℕ, zero, suc, Bool, true, List, [], ◌∷◌, ◌++◌, None, inr, refl, sym, ap, subst, ◌∙◌, append_assoc, Option, Some, inl, false}
+use Rattle.std.proofs.lemmas.Bool.{both_ways}
 use Rattle.std.proofs.lemmas.List.{append-nil}
 use Rattle.cr_syntax.specs.declared.look.TokenLook.{TokenLook}
 use Rattle.cr_syntax.specs.declared.look.TokenLook.TheVariants as l
@@ -9,7 +10,6 @@ use Rattle.cr_syntax.specs.declared.token.TokenKind.TheVariants as k
 use Rattle.cr_syntax.specs.Look.{look_of}
 use Rattle.cr_grammar.specs.Forms.{Form, nothing, ◌>>=◌, ◌>>◌, repeated_of, maybe, many, or_none, word, holding, last_look, seps, comma, listed, parenthesized, stmts, where_true, ◌<|>◌}
 use Rattle.cr_grammar.specs.Laws.{first_is}
-use Rattle.cr_exact.proofs.TokenTests.{clash}
 use Rattle.cr_exact.proofs.Tokens.{a_token}
 
 -- ---- how lists are split
@@ -131,7 +131,7 @@ module _ {A : Type 0} (P Q : Form A) where
 
   pub first_only : (w : List Token) (x : A) → (P <|> where_true false Q) w x → P w x
   first_only w x (inl c) = c
-  first_only w x (inr c) = absurd (clash refl c.0)
+  first_only w x (inr c) = absurd (both_ways _ refl c.0)
 
   pub maybe_first : (w : List Token) (o : Option A) → maybe (P <|> where_true false Q) w o → maybe P w o
   maybe_first w None c = c
@@ -195,8 +195,8 @@ spelled_listed r = spelled_bind r (λ x. spelled_bind (spelled_many _) (λ xs. s
 
 abbrev pub spelled_parenthesized : {A : Type 0} {R : Form A} → Spelled R → Spelled (parenthesized R)
 spelled_parenthesized r =
-    spelled_bind (spelled_word k.OpenParenthesis) (λ _. spelled_bind spelled_seps (λ _. spelled_bind r (λ x.
-    spelled_bind spelled_seps (λ _. spelled_bind (spelled_word k.CloseParenthesis) (λ _. spelled_nothing x)))))
+    spelled_bind (spelled_word (k.Plain l.OpenParenthesis)) (λ _. spelled_bind spelled_seps (λ _. spelled_bind r (λ x.
+    spelled_bind spelled_seps (λ _. spelled_bind (spelled_word (k.Plain l.CloseParenthesis)) (λ _. spelled_nothing x)))))
 
 abbrev pub spelled_stmts : {A : Type 0} (R : Form A) → Spelled (stmts R)
 spelled_stmts R = ([], [], ([], [], tt, refl, spelled_seps.2, ([], [], [], refl, inr (refl, refl), ([], [], tt, refl, spelled_seps.2, (refl, refl)))))

@@ -5,9 +5,10 @@ use Rattle.cr_syntax.specs.declared.look.TokenLook.TheVariants as l
 use Rattle.cr_syntax.specs.declared.token.Token.{Token}
 use Rattle.cr_syntax.specs.declared.token.TokenKind.{TokenKind}
 use Rattle.cr_syntax.specs.Look.{look_of}
-use Rattle.cr_grammar.specs.Forms.{Form, ◌>>=◌, many, word, holding, is_tight, seps, ◌<|>◌, repeated_of, Word}
+use Rattle.cr_grammar.specs.declared.word.Word.{Word}
+use Rattle.cr_grammar.specs.Forms.{Form, ◌>>=◌, many, word, holding, is_tight, seps, ◌<|>◌, repeated_of}
 use Rattle.cr_grammar.specs.Laws.{first_is}
-use Rattle.cr_exact.specs.Reader.{Test, passes, seen, look_at}
+use Rattle.cr_readers.specs.Reader.{Test, passes, seen, look_at}
 use Rattle.cr_exact.specs.Exact.{Stops}
 use Rattle.cr_exact.proofs.TokenTests.{At, Not, Apart, at_seen, apart_stops, other_look}
 use Rattle.cr_exact.proofs.Tokens.{Led}
@@ -20,15 +21,15 @@ Firsts v g C = (w : List Token) (x : _) (rest : List Token) → C w x → passes
 abbrev pub Heads : {A : Type 0} → Test → Form A → Type 0
 Heads test C = Firsts true test C
 
-abbrev pub Halts : {A : Type 0} → Test → Form A → Type 0
-Halts g C = Firsts false g C
+abbrev pub Fails : {A : Type 0} → Test → Form A → Type 0
+Fails g C = Firsts false g C
 
 -- What is spelled begins with a token, and this is no separator.
 abbrev pub NoLine : {A : Type 0} → Form A → Type 0
-NoLine C = Halts (seen l.Newline) C
+NoLine C = Fails (seen l.Newline) C
 
-pub heads_halts : {A : Type 0} (test g : Test) (C : Form A) → Heads test C → Apart test g → Halts g C
-heads_halts test g C heads apart w x rest c = apart_stops test g apart (w ++ rest) (heads w x rest c)
+pub heads_fails : {A : Type 0} (test g : Test) (C : Form A) → Heads test C → Apart test g → Fails g C
+heads_fails test g C heads apart w x rest c = apart_stops test g apart (w ++ rest) (heads w x rest c)
 
 -- A list in two parts begins as the first of them.
 pub front_of : (v : Bool) (g : Test) (w a b rest : List Token) → w ≡ a ++ b → passes g (a ++ (b ++ rest)) ≡ v → passes g (w ++ rest) ≡ v
@@ -137,11 +138,11 @@ tight_front _ v b led = ap (λ (t : List Token). is_tight (t ++ b)) led.2 ∙ sy
 -- ---- some times a form, and separators
 
 -- Some times the form, and what follows stops the test: then this stops it from the first on.
-pub many_stop : {A : Type 0} (g : Test) (R : Form A) → Halts g R → (w : List Token) (xs : List A) (rest : List Token) → many R w xs → Stops g rest → Stops g (w ++ rest)
+pub many_stop : {A : Type 0} (g : Test) (R : Form A) → Fails g R → (w : List Token) (xs : List A) (rest : List Token) → many R w xs → Stops g rest → Stops g (w ++ rest)
 many_stop g R halts w [] rest c stop = subst (λ (t : List Token). Stops g (t ++ rest)) (sym c) stop
 many_stop g R halts w (x ∷ xs) rest c stop = front_of false g w c.0 c.1 rest c.2 (halts c.0 x (c.1 ++ rest) c.3)
 
-pub repeated_stop : {A : Type 0} (g : Test) (C : A → Form A) → ((x : A) → Halts g (C x)) → (n : ℕ) (x : A) (w : List Token) (y : A) (rest : List Token)
+pub repeated_stop : {A : Type 0} (g : Test) (C : A → Form A) → ((x : A) → Fails g (C x)) → (n : ℕ) (x : A) (w : List Token) (y : A) (rest : List Token)
     → repeated_of n C x w y → Stops g rest → Stops g (w ++ rest)
 repeated_stop g C halts zero x w y rest c stop = rw c.0 stop
 repeated_stop g C halts (suc n) x w y rest c stop = front_of false g w c.0 c.1 rest c.3 (halts x c.0 c.2 (c.1 ++ rest) c.4)
@@ -152,6 +153,6 @@ seps_stop g lets w u rest c stop =
     many_stop g (word l.Newline) (first_word false l.Newline g lets) w a.0 rest a.1 stop
 
 -- the form, and before it separators
-pub seps_halts : {B : Type 0} (g : Test) → Not l.Newline g → (S : Unit {0} → Form B) → ((u : Unit {0}) → Halts g (S u)) → Halts g (seps >>= S)
-seps_halts g lets S halts w y rest c =
+pub seps_fails : {B : Type 0} (g : Test) → Not l.Newline g → (S : Unit {0} → Form B) → ((u : Unit {0}) → Fails g (S u)) → Fails g (seps >>= S)
+seps_fails g lets S halts w y rest c =
     front_of false g w c.0 c.1 rest c.3 (seps_stop g lets c.0 c.2 (c.1 ++ rest) c.4 (halts c.2 c.1 y rest c.5))

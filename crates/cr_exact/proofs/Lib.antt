@@ -6,6 +6,7 @@ pub mod Heads
 pub mod Follows
 pub mod Loops
 pub mod Nodes
+pub mod Moves
 pub mod Places
 pub mod Lists
 pub mod Closed
@@ -18,6 +19,5 @@ pub mod LimitLoops
 pub mod LimitParts
 pub mod LimitLists
 pub mod LimitReads
-pub mod LimitMeans
 pub mod TwoTokens
 pub mod LimitTwoTokens

@@ -1,13 +1,13 @@
 -- What is counted by readers that choose by the next token, and by those that look back.
 use Rattle.std.proofs.Common.{◌≡◌, ℕ, Bool, true, false, List, [], ◌++◌, Some, ◌⊎◌, inl, inr, refl, sym, ap, subst, ◌∙◌}
+use Rattle.std.proofs.lemmas.Bool.{both_ways}
 use Rattle.cr_syntax.specs.declared.look.TokenLook.{TokenLook}
 use Rattle.cr_syntax.specs.declared.token.Token.{Token}
 use Rattle.cr_grammar.specs.Forms.{Form, ◌<|>◌, where_true, with_last, place_of, from_first}
-use Rattle.cr_exact.specs.declared.fault.ParseFault.{ParseFault}
-use Rattle.cr_exact.specs.Reader.{State, Found, Failed, Reader, ◌>>=◌, pure, Test, passes, place_at, look_at, refuse, choose, only, by_look, allow, last, here}
+use Rattle.cr_readers.specs.declared.fault.ParseFault.{ParseFault}
+use Rattle.cr_readers.specs.Reader.{State, Found, Failed, Reader, ◌>>=◌, pure, Test, passes, place_at, look_at, refuse, choose, only, by_look, allow, last, here}
 use Rattle.cr_exact.specs.Exact.{head, Stops, Any}
-use Rattle.cr_exact.specs.Limits.{Tally, Counted, limit_at, Beyond, AtMost, Halts, Counts}
-use Rattle.cr_exact.proofs.TokenTests.{clash}
+use Rattle.cr_exact.specs.Limits.{Tally, Counted, limit_at, Beyond, ComesAs, AtMost, Halts, Counts}
 use Rattle.cr_exact.proofs.Sequence.{head-passes, head-place, head-look, bind_found, bind_refused, parts_found}
 use Rattle.cr_exact.proofs.Tokens.{Passing, Failing, Looks, Led, by_first, not_found, chosen}
 use Rattle.cr_exact.proofs.Places.{first_place}
@@ -45,17 +45,17 @@ module _ {A : Type 0} (test : Test) (C D : Form A) (g : Test) (p q : Reader A) {
 
   left-halts : (s : State) (e : ParseFault) (n : ℕ) (s' : State) → passes test s.rest ≡ true → Halts C g to s e n s' → Halts (C <|> D) g to s e n s'
   left-halts s e n s' pass H = record { front = H.front; some = H.some; parts = H.parts; place = H.place; beyond = beyond } where
-    beyond : (w rest more : List Token) (y : A) → (C <|> D) w y → w ++ rest ≡ H.front ++ more → head more ≡ head s'.rest → Stops g rest → Beyond e s.depth (to y)
+    beyond : (w rest more : List Token) (y : A) → (C <|> D) w y → w ++ rest ≡ H.front ++ more → ComesAs H.front more s'.rest → Stops g rest → Beyond e s.depth (to y)
     beyond w rest more y (inl c) is next stop = H.beyond w rest more y c is next stop
     beyond w rest more y (inr d) is next stop =
-        absurd (clash (others w y rest d stop) (head-passes test (w ++ rest) s.rest (ahead s s' H.front w rest more H.some H.parts is) ∙ pass))
+        absurd (both_ways _ (others w y rest d stop) (head-passes test (w ++ rest) s.rest (ahead s s' H.front w rest more H.some H.parts is) ∙ pass))
 
   right-halts : (s : State) (e : ParseFault) (n : ℕ) (s' : State) → passes test s.rest ≡ false → Halts D g to s e n s' → Halts (C <|> D) g to s e n s'
   right-halts s e n s' fail H = record { front = H.front; some = H.some; parts = H.parts; place = H.place; beyond = beyond } where
-    beyond : (w rest more : List Token) (y : A) → (C <|> D) w y → w ++ rest ≡ H.front ++ more → head more ≡ head s'.rest → Stops g rest → Beyond e s.depth (to y)
+    beyond : (w rest more : List Token) (y : A) → (C <|> D) w y → w ++ rest ≡ H.front ++ more → ComesAs H.front more s'.rest → Stops g rest → Beyond e s.depth (to y)
     beyond w rest more y (inr d) is next stop = H.beyond w rest more y d is next stop
     beyond w rest more y (inl c) is next stop =
-        absurd (clash (head-passes test (w ++ rest) s.rest (ahead s s' H.front w rest more H.some H.parts is) ∙ fail) (heads w y rest c))
+        absurd (both_ways _ (head-passes test (w ++ rest) s.rest (ahead s s' H.front w rest more H.some H.parts is) ∙ fail) (heads w y rest c))
 
   choose-stops : (s : State) (e : ParseFault) (n : ℕ) (s' : State) → Counted from s → choose test p q s ≡ Failed e s' → limit_at e ≡ Some n → Halts (C <|> D) g to s e n s'
   choose-stops s e n s' is failed limit =
@@ -154,7 +154,7 @@ counts_allowed true C g p cp = record {
 }
 counts_allowed false C g p cp = record {
   same = cp.same;
-  grows = λ w x c. absurd (clash refl c.0);
+  grows = λ w x c. absurd (both_ways _ refl c.0);
   found = λ s x s' pre is e. absurd (not_found s x s' e);
   stopped = λ s e n s' pre is failed limit. absurd (still_refuse.lets s e n s' failed limit);
 }
@@ -208,7 +208,7 @@ counts_here {A = A} C g p {from = from} {to = to} cp sure = record {
 pub way_where : {A : Type 0} (look : TokenLook) (c : Bool) (C : Form A) (g : Test) (p : Reader A) (from : Tally) (to : A → Tally)
     → (c ≡ true → Counts (Looks look) C g from to p) → Way look (where_true c C) g from to (allow c p)
 way_where _ true C g p from to cp = inl (counts_allowed true C g p (cp refl))
-way_where _ false C g p from to cp = inr (refl, λ w x led c. clash refl c.0)
+way_where _ false C g p from to cp = inr (refl, λ w x led c. both_ways _ refl c.0)
 
 -- what is refused at once counts nothing
 pub counts_refuse : {A : Type 0} (goes : Test) (from : Tally) (to : A → Tally) → Counts Any (λ w x. ⊥) goes from to refuse

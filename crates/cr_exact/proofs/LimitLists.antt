@@ -8,19 +8,19 @@ use Rattle.cr_syntax.specs.declared.token.TokenKind.TheVariants as k
 use Rattle.cr_syntax.specs.Look.{look_of}
 use Rattle.cr_grammar.specs.Forms.{Form, nothing, ◌<|>◌, word, tight, or_none}
 use Rattle.cr_grammar.specs.Forms as f
-use Rattle.cr_exact.specs.Reader.{Reader, Test, seen, tight_seen, either, never, expect, choose, many, pure, ◌>>=◌, ◌>>◌, State, passes, grow, take}
-use Rattle.cr_exact.specs.Lists.{optional, separators, comma, listed, parenthesized, lines, stmts, unless_closed}
+use Rattle.cr_readers.specs.Reader.{Reader, Test, seen, tight_seen, either, never, expect, choose, many, pure, ◌>>=◌, ◌>>◌, State, passes, grow, take}
+use Rattle.cr_readers.specs.Lists.{optional, separators, comma, listed, parenthesized, lines, stmts, unless_closed}
 use Rattle.cr_exact.specs.Exact.{Stops, Effort, Exact, Any}
 use Rattle.cr_exact.specs.Limits.{Tally, AtMost, known, Counts, tallied, Still, Rises, size_of_all, top_of_all, risen, unknown, Whole}
 use Rattle.cr_exact.proofs.TokenTests.{look_is_same, Apart, stops_right, Not, never_stops, stops_less}
 use Rattle.cr_exact.proofs.Sequence.{exact_bind, weaken}
 use Rattle.cr_exact.proofs.Tokens.{Passing, Failing, exact_word}
 use Rattle.cr_exact.proofs.Forms.{made_out, no_seps}
-use Rattle.cr_exact.proofs.Heads.{Heads, NoLine, first_bind, led_heads, first_led, many_stop, led_tight_first, led_at, Halts, LedBy, led, led_seen}
+use Rattle.cr_exact.proofs.Heads.{Heads, NoLine, first_bind, led_heads, first_led, many_stop, led_tight_first, led_at, Fails, LedBy, led, led_seen}
 use Rattle.cr_exact.proofs.Follows.{Follows, follows_never}
-use Rattle.cr_exact.proofs.Lists.{exact_separators, exact_comma, closed, read_closed, closed_halts}
-use Rattle.cr_exact.proofs.Closed.{choice_first, at_once, once_back, once_halts}
-use Rattle.cr_exact.proofs.Lines.{lines_of, stmts_back, after_line, then_lines, lines_split, line_ends, lines_halt, after_halts}
+use Rattle.cr_exact.proofs.Lists.{exact_separators, exact_comma, closed, read_closed, closed_fails}
+use Rattle.cr_exact.proofs.Closed.{choice_first, at_once, once_back, once_fails}
+use Rattle.cr_exact.proofs.Lines.{lines_of, stmts_back, after_line, then_lines, lines_split, line_ends, lines_halt, after_fails}
 use Rattle.cr_exact.proofs.Limits.{least, at_most, counts_bind, counts_bind_quiet, counts_still_then, counts_pure, counts_silent, counts_weaken, counts_map, counts_goes, still_pure, still_take, still_many, still_bind, still_choose}
 use Rattle.cr_exact.proofs.LimitSteps.{counts_grown}
 use Rattle.cr_exact.proofs.LimitChoices.{counts_choose, passing_same, failing_same}
@@ -161,13 +161,13 @@ module _ (effort : Effort) {A : Type 0} (R C : Form A) (g : Test) (p : Reader A)
       → Counts Any (f.parenthesized C) never from to (parenthesized effort.turns p)
   counts_parenthesized line close from to cp =
       counts_bind (λ _. f.◌>>=◌ f.seps (λ _. f.◌>>=◌ C (λ x. closed l.CloseParenthesis x))) never (λ _. separators effort.turns >> (p >>= λ x. read_closed effort.turns l.CloseParenthesis x)) to
-      (exact_word effort k.OpenParenthesis never) (counts_silent (word l.OpenParenthesis) never from (still_word l.OpenParenthesis))
+      (exact_word effort (k.Plain l.OpenParenthesis) never) (counts_silent (word l.OpenParenthesis) never from (still_word l.OpenParenthesis))
       (λ at. counts_bind (λ _. f.◌>>=◌ C (λ x. closed l.CloseParenthesis x)) never (λ _. p >>= λ x. read_closed effort.turns l.CloseParenthesis x) to
       (exact_separators effort) (counts_silent f.seps (seen l.Newline) from (still_separators effort.turns))
       (λ u. counts_bind_quiet (λ x. closed l.CloseParenthesis x) never (λ x. read_closed effort.turns l.CloseParenthesis x) to cp
       (λ x. counts_closed effort.turns l.CloseParenthesis x (to x) to refl)
       (λ x. (still_closed effort.turns l.CloseParenthesis x).lets)
-      (λ x b y rest d stop. closed_halts g l.CloseParenthesis x line close b y rest d))
+      (λ x b y rest d stop. closed_fails g l.CloseParenthesis x line close b y rest d))
       (λ u b y rest d stop. first_bind false (seen l.Newline) C (λ x. closed l.CloseParenthesis x) lineless b y rest d))
       (λ at b y rest d stop. never_stops (b ++ rest))
 
@@ -216,7 +216,7 @@ module _ (effort : Effort) {A : Type 0} (R C : Form A) (begins g : Test) (p : Re
       counts_choose (seen l.Newline) (f.◌>>=◌ (word l.Newline) (λ _. f.◌>>=◌ f.seps (λ _. lines_of C))) (nothing []) h (read_line n) (pure [])
       (counts_weaken (Passing (seen l.Newline)) (passing_same (seen l.Newline))
       (counts_bind (λ _. f.◌>>=◌ f.seps (λ _. lines_of C)) h (λ _. separators effort.turns >> lines effort.turns begins p n) (tallied step t)
-      (exact_word effort k.Newline never) (counts_silent (word l.Newline) never t (still_word l.Newline))
+      (exact_word effort (k.Plain l.Newline) never) (counts_silent (word l.Newline) never t (still_word l.Newline))
       (λ at. counts_bind (λ _. lines_of C) h (λ _. lines effort.turns begins p n) (tallied step t)
       (exact_separators effort) (counts_silent f.seps (seen l.Newline) t (still_separators effort.turns)) (λ u. more)
       (λ u b xs rest d stop. lines_halt effort R C begins g p ep heads begins_no_line no_line h ends b xs rest d stop))
@@ -240,7 +240,7 @@ module _ (effort : Effort) {A : Type 0} (R C : Form A) (begins g : Test) (p : Re
       (λ xs b y rest d stop. subst (λ (t : List Token). Stops h (t ++ rest)) (sym d.0) stop))
       (λ x b y rest d stop.
       let c = made_out (after_line C) (λ zs. x ∷ zs) b y d in
-      after_halts effort R C begins g p ep heads begins_no_line no_line h ends b c.0 rest c.1 stop)))
+      after_fails effort R C begins g p ep heads begins_no_line no_line h ends b c.0 rest c.1 stop)))
       (counts_weaken (Failing begins) (failing_same begins) (counts_pure [] h t (tallied step t) refl))
       (first_bind true begins C (then_lines C) heads)
       (λ w xs rest d stop. subst (λ (t : List Token). Stops begins (t ++ rest)) (sym d.0) (stops_less begins h (λ found spaced e. (ends found spaced e).1) rest stop)))
@@ -265,7 +265,7 @@ rises_stmts effort R C begins g p ep heads begins_no_line no_line h ends size to
 -- E is spelled where it is closed at once.
 pub counts_once : {effort : Effort} {A B : Type 0} (close : TokenLook) (R C : Form (List A)) (g : Test) (p : Reader (List A)) (E : Form B) (N : List A → Form B) (h : Test) (k : List A → Reader B)
     (from : Tally) (mid : List A → Tally) (to : B → Tally) → Exact effort Any R C g p → Counts Any C g from mid p → ((xs : List A) → Counts Any (N xs) h (mid xs) to (k xs)) → Counts Any E h from to (k [])
-    → LedBy close E → Halts (seen close) C → ((xs : List A) → Follows g (N xs) h)
+    → LedBy close E → Fails (seen close) C → ((xs : List A) → Follows g (N xs) h)
     → Counts Any (f.◌<|>◌ E (f.◌>>=◌ C N)) h from to (unless_closed close p >>= k)
 counts_once close R C g p E N h k from mid to ep cp ck ce closes ahead follows =
     counts_same (choose (seen close) (k []) (p >>= k)) (unless_closed close p >>= k) (λ s. choice_first (passes (seen close) s.rest) (pure []) p k s)
@@ -278,7 +278,7 @@ counts_once close R C g p E N h k from mid to ep cp ck ce closes ahead follows =
 -- separators, [ R ], separators and a closing token
 module _ (effort : Effort) {A : Type 0} (R C : Form (List A)) (g : Test) (p : Reader (List A)) (ep : Exact effort Any R C g p)
     (lineless : NoLine C) (line : Not l.Newline g) where
-  counts_or_none : (close : TokenLook) → Not close g → (close ≡ l.Newline → ⊥) → Halts (seen close) C
+  counts_or_none : (close : TokenLook) → Not close g → (close ≡ l.Newline → ⊥) → Fails (seen close) C
       → (from : Tally) (to : List A → Tally) → to [] ≡ from → Counts Any C g from to p
       → Counts Any (f.◌>>=◌ f.seps (λ _. f.◌>>=◌ (or_none C) (λ xs. closed close xs))) never from to
       (separators effort.turns >> (unless_closed close p >>= λ xs. read_closed effort.turns close xs))
@@ -292,10 +292,10 @@ module _ (effort : Effort) {A : Type 0} (R C : Form (List A)) (g : Test) (p : Re
       (λ _. counts_once close R C g p (f.◌>>=◌ (word close) (λ _. nothing [])) (λ xs. closed close xs) never k from to to ep cp
       (λ xs. counts_closed effort.turns close xs (to xs) to refl)
       (counts_map (f.◌>>=◌ (word close) (λ _. nothing [])) (λ w xs c. ([], w, tt, refl, no_seps, c)) (counts_closed effort.turns close [] from to none))
-      (led close (λ _. nothing [])) apart (λ xs b y rest d stop. closed_halts g close xs line lets b y rest d))
-      (λ u b y rest d stop. once_halts effort R C g p ep lineless line close other b y rest d))
+      (led close (λ _. nothing [])) apart (λ xs b y rest d stop. closed_fails g close xs line lets b y rest d))
+      (λ u b y rest d stop. once_fails effort R C g p ep lineless line close other b y rest d))
 
-  pub rises_or_none : (close : TokenLook) → Not close g → (close ≡ l.Newline → ⊥) → Halts (seen close) C
+  pub rises_or_none : (close : TokenLook) → Not close g → (close ≡ l.Newline → ⊥) → Fails (seen close) C
       → (size top : List A → ℕ) → size [] ≡ 0 → top [] ≡ 0 → Rises size top Any C g p
       → Rises size top Any (f.◌>>=◌ f.seps (λ _. f.◌>>=◌ (or_none C) (λ xs. closed close xs))) never
       (separators effort.turns >> (unless_closed close p >>= λ xs. read_closed effort.turns close xs))

@@ -4,8 +4,8 @@ use Rattle.std.proofs.lemmas.List.{append-nil}
 use Rattle.cr_syntax.specs.declared.token.Token.{Token}
 use Rattle.cr_grammar.specs.Forms.{Form, nothing, ◌<|>◌, maybe}
 use Rattle.cr_grammar.specs.Forms as f
-use Rattle.cr_exact.specs.Reader.{Reader, Test, passes, ◌>>=◌, pure, give_up, either, many, repeated}
-use Rattle.cr_exact.specs.Lists.{optional}
+use Rattle.cr_readers.specs.Reader.{Reader, Test, passes, ◌>>=◌, pure, give_up, either, many, repeated}
+use Rattle.cr_readers.specs.Lists.{optional}
 use Rattle.cr_exact.specs.Exact.{Stops, Effort, Exact, Any}
 use Rattle.cr_exact.specs.Limits.{Tally, AtMost, Counts, tallied, if_any}
 use Rattle.cr_exact.proofs.TokenTests.{Apart, apart_stops, stops_left, stops_right}

@@ -1,12 +1,12 @@
 -- What the parts of a node count, one by one and in lists.
 use Rattle.std.proofs.Common.{◌≡◌, ℕ, ◌+◌, ◌<◌, max, List, [], ◌∷◌, ◌++◌, map, Option, Some, None, refl, ap, subst, ◌∙◌, arith}
-use Rattle.std.specs.Prelude.{sum}
+use Rattle.std.proofs.lemmas.List.Sums.{sum_by-cons}
 use Rattle.std.specs.List.{fold}
 use Rattle.cr_syntax.specs.declared.token.Token.{Token}
 use Rattle.cr_grammar.specs.Forms.{Form, nothing, maybe}
 use Rattle.cr_grammar.specs.Forms as f
-use Rattle.cr_exact.specs.Reader.{Reader, Test, pure, either, many, part, beside}
-use Rattle.cr_exact.specs.Lists.{optional}
+use Rattle.cr_readers.specs.Reader.{Reader, Test, pure, either, many, part, beside}
+use Rattle.cr_readers.specs.Lists.{optional}
 use Rattle.cr_exact.specs.Exact.{Effort, Exact, Any}
 use Rattle.cr_exact.specs.Limits.{Tally, known, Counts, tallied, Whole, Rises, tall, size_of_all, top_of_all, if_some, risen, if_any}
 use Rattle.cr_exact.proofs.TokenTests.{Apart}
@@ -17,27 +17,6 @@ use Rattle.cr_exact.proofs.LimitSteps.{counts_part, counts_beside}
 use Rattle.cr_exact.proofs.LimitLoops.{counts_many, counts_optional}
 
 -- ---- sums and greatest numbers
-
-sum_from : (n : ℕ) (xs : List ℕ) → fold (λ a x. a + x) n xs ≡ n + sum xs
-sum_from n [] = omega arith
-sum_from n (x ∷ xs) =
-    let a = sum_from (n + x) xs in
-    let b = sum_from (0 + x) xs in
-    omega (arith, a, b)
-
-pub sum_cons : (x : ℕ) (xs : List ℕ) → sum (x ∷ xs) ≡ x + sum xs
-sum_cons x xs = let a = sum_from (0 + x) xs in omega (arith, a)
-
-pub sum_append : (xs ys : List ℕ) → sum (xs ++ ys) ≡ sum xs + sum ys
-sum_append [] ys = omega arith
-sum_append (x ∷ xs) ys =
-    let a = sum_cons x (xs ++ ys) in
-    let b = sum_cons x xs in
-    let c = sum_append xs ys in
-    omega (arith, a, b, c)
-
-pub sum_last : (xs : List ℕ) (x : ℕ) → sum (xs ++ x ∷ []) ≡ sum xs + x
-sum_last xs x = let a = sum_append xs (x ∷ []) in let b = sum_cons x [] in omega (arith, a, b)
 
 tall_from : (n : ℕ) (xs : List ℕ) → fold max n xs ≡ max n (tall xs)
 tall_from n [] = omega arith
@@ -77,7 +56,7 @@ known_is n m h i nodes height = ap (λ v. known v h) nodes ∙ ap (λ v. known m
 risen_all : {A : Type 0} (size top : A → ℕ) (n h : ℕ) (xs : List A) → tallied (risen size top) (known n h) xs ≡ known (n + size_of_all size xs) (max h (top_of_all top xs))
 risen_all size top n h [] = known_is n (n + 0) h (max h 0) (omega arith) (omega arith)
 risen_all size top n h (x ∷ xs) =
-    let a = sum_cons (size x) (map size xs) in
+    let a = sum_by-cons (λ n. n) (size x) (map size xs) in
     let b = tall_cons (top x) (map top xs) in
     risen_all size top (n + size x) (max h (top x)) xs
     ∙ known_is _ (n + size_of_all size (x ∷ xs)) _ (max h (top_of_all top (x ∷ xs))) (omega (arith, a)) (omega (arith, b))

@@ -4,10 +4,11 @@ use Rattle.cr_syntax.specs.declared.look.TokenLook.{TokenLook}
 use Rattle.cr_syntax.specs.declared.look.TokenLook.TheVariants as l
 use Rattle.cr_syntax.specs.declared.token.Token.{Token}
 use Rattle.cr_syntax.specs.declared.token.TokenKind.{TokenKind}
-use Rattle.cr_grammar.specs.Forms.{Form, nothing, Word}
+use Rattle.cr_grammar.specs.declared.word.Word.{Word}
+use Rattle.cr_grammar.specs.Forms.{Form, nothing}
 use Rattle.cr_grammar.specs.Forms as f
-use Rattle.cr_exact.specs.Reader.{Reader, Test, passes, never, choose, pure, ◌>>=◌, holder, grow, ◌>>◌, seen, either}
-use Rattle.cr_exact.specs.Lists.{listed, stmts}
+use Rattle.cr_readers.specs.Reader.{Reader, Test, passes, never, choose, pure, ◌>>=◌, holder, grow, ◌>>◌, seen, either}
+use Rattle.cr_readers.specs.Lists.{listed, stmts}
 use Rattle.cr_exact.specs.Exact.{Effort, Any, Exact}
 use Rattle.cr_exact.specs.Limits.{Tally, Counts, Still, known, unknown, Rises, size_of_all, top_of_all}
 use Rattle.cr_exact.proofs.TokenTests.{never_stops, At, seen_apart}

@@ -1,13 +1,13 @@
 -- What is counted with a token, with a part, and beside what was read last.
 use Rattle.std.proofs.Common.{◌≡◌, ℕ, ◌+◌, ◌≤◌, max, Bool, true, false, cond, ◌&&◌, nat_le, List, [], ◌∷◌, ◌++◌, Option, Some, None, ◌⊎◌, inl, inr, refl, sym, ap, subst, ◌∙◌, arith}
-use Rattle.std.proofs.lemmas.Bool.{leb-true, leb-false}
+use Rattle.std.proofs.lemmas.Bool.{and_parts, leb-false, leb-true}
 use Rattle.cr_syntax.specs.declared.token.Token.{Token}
 use Rattle.cr_syntax.specs.Look.{look_of}
 use Rattle.cr_grammar.specs.Forms.{Form, one}
 use Rattle.cr_grammar.specs.Forms as f
-use Rattle.cr_exact.specs.declared.fault.ParseFault.{ParseFault}
-use Rattle.cr_exact.specs.declared.fault.ParseFault.TheVariants.{Unexpected, TooDeep, TooManyNodes, NoMemory}
-use Rattle.cr_exact.specs.Reader.{State, Outcome, Found, Failed, Reader, ◌>>=◌, ◌>>◌, Test, read_by, next, look_at, taken, take, max_nesting, max_nodes, node_above, grow, wrap, around, deeper, shallower, above_part, unchanged, part, beside}
+use Rattle.cr_readers.specs.declared.fault.ParseFault.{ParseFault}
+use Rattle.cr_readers.specs.declared.fault.ParseFault.TheVariants.{Unexpected, TooDeep, TooManyNodes, NoMemory}
+use Rattle.cr_readers.specs.Reader.{State, Outcome, Found, Failed, Reader, ◌>>=◌, ◌>>◌, Test, read_by, next, look_at, taken, take, max_nesting, max_nodes, node_above, grow, wrap, around, deeper, shallower, above_part, unchanged, part, beside}
 use Rattle.cr_exact.specs.Exact.{at, Stops, Effort, Exact, Any}
 use Rattle.cr_exact.specs.Limits.{Tally, known, unknown, Counted, limit_at, Beyond, last_place, Halts, Counts, Second, Adds, Marks}
 use Rattle.cr_exact.proofs.Sequence.{bind_found, bind_refused, parts_found}
@@ -19,10 +19,6 @@ use Rattle.cr_exact.proofs.Limits.{at_most, beyond_more, counts_bind_by, counts_
 both_false : (limited le : Bool) → limited ≡ true → limited && le ≡ false → le ≡ false
 both_false true le is e = e
 both_false false le is e = absurd cc
-
-both_true : (limited le : Bool) → limited && le ≡ true → le ≡ true
-both_true true le e = e
-both_true false le e = absurd cc
 
 above_found : (b c : Bool) (place : ℕ) (s m s' : State)
     → let outcome : Outcome (Unit {0}) = cond b (Failed (TooDeep place) s) (cond c (Failed (TooManyNodes place) s) (Found tt m)) in outcome ≡ Found tt s'
@@ -68,10 +64,10 @@ above_stops nodes height place old s e n s' counted failed limit =
     let is = above_failed (s.limited && nat_le max_nesting (s.depth + height)) (s.limited && nat_le max_nodes s.nodes) place s (record s { nodes = s.nodes + 1; height = height + 1 }) e n s' failed limit in
     let beyond : Beyond e s.depth (known (nodes + 1) (height + 1)) = elim is.2 [
       | inl deep ↦
-          let le = leb-true max_nesting (s.depth + height) (both_true s.limited (nat_le max_nesting (s.depth + height)) deep.0) in
+          let le = leb-true max_nesting (s.depth + height) (and_parts s.limited _ deep.0).1 in
           subst (λ v. Beyond v s.depth (known (nodes + 1) (height + 1))) deep.1 (omega (arith, le))
       | inr many ↦
-          let le = leb-true max_nodes s.nodes (both_true s.limited (nat_le max_nodes s.nodes) many.0) in
+          let le = leb-true max_nodes s.nodes (and_parts s.limited _ many.0).1 in
           subst (λ v. Beyond v s.depth (known (nodes + 1) (height + 1))) many.1 (omega (arith, le, counted.nodes))
     ] in
     (is.0, ap (λ (v : State). v.rest) is.1, beyond)

@@ -2,11 +2,12 @@
 use Rattle.std.proofs.Common.{◌≡◌, ℕ, zero, suc, Bool, true, false, cond, List, [], ◌∷◌, ◌++◌, Option, Some, None, inl, inr, refl, sym, ap, subst, ◌∙◌, append_assoc, arith}
 use Rattle.cr_syntax.specs.declared.look.TokenLook.{TokenLook}
 use Rattle.cr_syntax.specs.declared.token.Token.{Token}
-use Rattle.cr_grammar.specs.Forms.{Form, nothing}
+use Rattle.cr_grammar.specs.Forms.{Form, nothing, last_look}
+use Rattle.cr_grammar.specs.Operators.{is_minus}
 use Rattle.cr_grammar.specs.Forms as f
-use Rattle.cr_exact.specs.declared.fault.ParseFault.{ParseFault}
-use Rattle.cr_exact.specs.declared.fault.ParseFault.TheVariants.{Unexpected, TooDeep, TooManyNodes, NoMemory}
-use Rattle.cr_exact.specs.Reader.{State, Outcome, Found, Failed, Reader, ◌>>=◌, pure, Test, passes, read_by, next, refuse, give_up, taken, take, choose, many}
+use Rattle.cr_readers.specs.declared.fault.ParseFault.{ParseFault}
+use Rattle.cr_readers.specs.declared.fault.ParseFault.TheVariants.{Unexpected, TooDeep, TooManyNodes, NoMemory}
+use Rattle.cr_readers.specs.Reader.{State, Outcome, Found, Failed, Reader, ◌>>=◌, pure, Test, passes, read_by, next, refuse, give_up, taken, take, choose, many}
 use Rattle.cr_exact.specs.Exact.{at, head, Stops, Effort, Ends, Exact, Any}
 use Rattle.cr_exact.specs.Limits.{Tally, IsHigh, Counted, limit_at, Beyond, AtMost, last_place, Halts, Counts, Second, Marks, Still, Quiet}
 use Rattle.cr_exact.proofs.Sequence.{head-append, bind_found, bind_refused, parts_found}
@@ -41,6 +42,12 @@ last_place_behind [] b some = refl
 last_place_behind (t ∷ []) [] some = absurd (some refl)
 last_place_behind (t ∷ []) (u ∷ b) some = refl
 last_place_behind (t ∷ v ∷ a) b some = last_place_behind (v ∷ a) b some
+
+pub last_look_behind : (a b : List Token) → (b ≡ [] → ⊥) → last_look (a ++ b) ≡ last_look b
+last_look_behind [] b some = refl
+last_look_behind (t ∷ []) [] some = absurd (some refl)
+last_look_behind (t ∷ []) (u ∷ b) some = refl
+last_look_behind (t ∷ v ∷ a) b some = last_look_behind (v ∷ a) b some
 
 -- ---- one after the other
 
@@ -99,7 +106,8 @@ module _ {effort : Effort} {A B : Type 0} {Pre : List Token → Type 0} {R C : F
             (head-append P.front (H.front ++ more) m.rest alike ∙ ap head (sym P.parts))
             (P.again (H.front ++ more) alike) c (is ∙ append_assoc P.front H.front more) stop in
             subst (λ v. Beyond e v (to y)) deep
-            (H.beyond c.1 rest more y (subst (λ v. D v c.1 y) (sym split.0) c.5) (sym split.1) next stop);
+            (H.beyond c.1 rest more y (subst (λ v. D v c.1 y) (sym split.0) c.5) (sym split.1)
+            (λ minus. next (ap is_minus (last_look_behind P.front H.front H.some) ∙ minus)) stop);
       }
 
   mark_halts : (s m : State) (x : A) (e : ParseFault) (n : ℕ) (s' : State) → Pre s.rest → p s ≡ Found x m → m.depth ≡ s.depth

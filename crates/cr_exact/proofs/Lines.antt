@@ -7,16 +7,18 @@ use Rattle.cr_syntax.specs.declared.token.Token.{Token}
 use Rattle.cr_syntax.specs.declared.token.TokenKind.TheVariants as k
 use Rattle.cr_grammar.specs.Forms.{Form, nothing, ◌<|>◌, or_none, word}
 use Rattle.cr_grammar.specs.Forms as f
-use Rattle.cr_exact.specs.Reader.{Reader, Test, passes, seen, never, expect, choose, pure, ◌>>=◌, ◌>>◌}
-use Rattle.cr_exact.specs.Lists.{separators, lines, stmts}
+use Rattle.cr_readers.specs.Reader.{Reader, Test, passes, seen, never, expect, choose, pure, ◌>>=◌, ◌>>◌}
+use Rattle.cr_readers.specs.Lists.{separators, lines, stmts}
 use Rattle.cr_exact.specs.Exact.{Stops, Effort, Exact, Any}
 use Rattle.cr_exact.proofs.TokenTests.{Not, apart_seen, never_stops, stops_less}
 use Rattle.cr_exact.proofs.Sequence.{enough_behind, exact_bind_by, exact_bind, exact_pure, exact_map, weaken}
 use Rattle.cr_exact.proofs.Tokens.{Passing, exact_word, exact_choose}
 use Rattle.cr_exact.proofs.Forms.{made_out, no_seps, seps_append, seps_of}
-use Rattle.cr_exact.proofs.Heads.{Halts, heads_halts, led_heads, seps_stop, Heads, first_bind, first_led}
-use Rattle.cr_exact.proofs.Loops.{turns_of, fewer, one_less}
+use Rattle.cr_exact.proofs.Heads.{Fails, heads_fails, led_heads, seps_stop, Heads, first_bind, first_led}
+use Rattle.cr_exact.proofs.Loops.{turns_of, fewer, one_less, given_up}
 use Rattle.cr_exact.proofs.Lists.{exact_separators}
+use Rattle.cr_exact.proofs.Sequence.{never_back}
+use Rattle.cr_exact.proofs.Moves.{Moves, moves_bind, moves_word, advances_bind, advances_pure}
 
 -- What follows separators, read in one way: R, and behind it a new line, separators and again so, or nothing. Separators
 -- behind the last R are a new line, separators and no more R.
@@ -147,11 +149,11 @@ module _ {A : Type 0} (R : Form A) where
       )
 
   -- Statements, and what follows stops the test: then this stops it from the first on.
-  pub lines_stop : (g : Test) → Halts g R → (w : List Token) (xs : List A) (rest : List Token) → lines_of R w xs → Stops g rest → Stops g (w ++ rest)
+  pub lines_stop : (g : Test) → Fails g R → (w : List Token) (xs : List A) (rest : List Token) → lines_of R w xs → Stops g rest → Stops g (w ++ rest)
   lines_stop g halts w [] rest c stop = subst (λ (t : List Token). Stops g (t ++ rest)) (sym c) stop
   lines_stop g halts w (x ∷ xs) rest c stop = ap (λ (t : List Token). passes g (t ++ rest)) c.2 ∙ ap (passes g) (append_assoc c.0 c.1 rest) ∙ halts c.0 x (c.1 ++ rest) c.3
 
-  pub stmts_stop : (g : Test) → Not l.Newline g → Halts g R → (w : List Token) (xs : List A) (rest : List Token) → f.stmts R w xs → Stops g rest → Stops g (w ++ rest)
+  pub stmts_stop : (g : Test) → Not l.Newline g → Fails g R → (w : List Token) (xs : List A) (rest : List Token) → f.stmts R w xs → Stops g rest → Stops g (w ++ rest)
   stmts_stop g lets halts w xs rest c stop =
       let d = stmts_back w xs c in
       ap (λ (t : List Token). passes g (t ++ rest)) d.3 ∙ ap (passes g) (append_assoc d.0 d.1 rest)
@@ -184,11 +186,11 @@ module _ (effort : Effort) {A : Type 0} (R C : Form A) (begins g : Test) (p : Re
 
     pub lines_halt : (w : List Token) (xs : List A) (rest : List Token) → lines_of C w xs → Stops h rest → Stops (seen l.Newline) (w ++ rest)
     lines_halt w xs rest c stop =
-        lines_stop C (seen l.Newline) (heads_halts begins (seen l.Newline) C heads (apart_seen begins l.Newline begins_no_line)) w xs rest c (line_ends rest stop)
+        lines_stop C (seen l.Newline) (heads_fails begins (seen l.Newline) C heads (apart_seen begins l.Newline begins_no_line)) w xs rest c (line_ends rest stop)
 
-    pub after_halts : (w : List Token) (xs : List A) (rest : List Token) → after_line C w xs → Stops h rest → Stops g (w ++ rest)
-    after_halts w xs rest (inl c) stop = first_led false l.Newline g (λ _. f.◌>>=◌ f.seps (λ _. lines_of C)) no_line w xs rest c
-    after_halts w xs rest (inr c) stop = subst (λ (t : List Token). Stops g (t ++ rest)) (sym c.0) (stops_less g h (λ found spaced e. (ends found spaced e).2) rest stop)
+    pub after_fails : (w : List Token) (xs : List A) (rest : List Token) → after_line C w xs → Stops h rest → Stops g (w ++ rest)
+    after_fails w xs rest (inl c) stop = first_led false l.Newline g (λ _. f.◌>>=◌ f.seps (λ _. lines_of C)) no_line w xs rest c
+    after_fails w xs rest (inr c) stop = subst (λ (t : List Token). Stops g (t ++ rest)) (sym c.0) (stops_less g h (λ found spaced e. (ends found spaced e).2) rest stop)
 
     abbrev read_line : ℕ → Reader (List A)
     read_line n = expect l.Newline >> (separators effort.turns >> lines effort.turns begins p n)
@@ -201,7 +203,7 @@ module _ (effort : Effort) {A : Type 0} (R C : Form A) (begins g : Test) (p : Re
         exact_choose (turns_of effort n) (seen l.Newline) (f.◌>>=◌ (word l.Newline) (λ _. f.◌>>=◌ f.seps (λ _. lines_of R))) (f.◌>>=◌ (word l.Newline) (λ _. f.◌>>=◌ f.seps (λ _. lines_of C)))
         (nothing []) (nothing []) h (read_line n) (pure [])
         (weaken _ (exact_bind (λ _. f.◌>>=◌ f.seps (λ _. lines_of R)) (λ _. f.◌>>=◌ f.seps (λ _. lines_of C)) h (λ _. separators effort.turns >> lines effort.turns begins p n)
-        (exact_word (turns_of effort n) k.Newline never)
+        (exact_word (turns_of effort n) (k.Plain l.Newline) never)
         (λ _. exact_bind_by (turns_of effort n) effort (turns_of effort n) Any f.seps f.seps (seen l.Newline) (separators effort.turns) (λ _. lines_of R) (λ _. lines_of C) h (λ _. lines effort.turns begins p n)
         (fewer effort n le) (λ a u s m c e same en. enough_behind (turns_of effort n) s m a e same en)
         (exact_separators effort) (λ _. more) (λ _. ([], [], refl)) (λ u b xs rest d stop. lines_halt b xs rest d stop))
@@ -210,14 +212,17 @@ module _ (effort : Effort) {A : Type 0} (R C : Form A) (begins g : Test) (p : Re
         (weaken _ (exact_pure (turns_of effort n) [] h))
         (led_heads l.Newline _)
         (λ w xs rest d stop. subst (λ (t : List Token). Stops (seen l.Newline) (t ++ rest)) (sym d.0) (line_ends rest stop))
+        (λ xs s d clear is. (moves_bind (moves_word l.Newline) (λ _. advances_bind (never_back (exact_separators effort)) (λ _. never_back more))).beyond s clear is)
 
-    lines_turns : (n : ℕ) → n ≤ effort.turns → Lines n
-    lines_turns zero le = record {
+    lines_turns : Moves begins p → (n : ℕ) → n ≤ effort.turns → Lines n
+    lines_turns moves zero le = record {
       found = λ s x s' pre e. absurd cc;
       refused = λ s u s' pre e. absurd cc;
-      complete = λ w x s rest pre c e stop. (tt, λ en. absurd (omega (arith, en.2)));
+      begun = λ s d s' pre e. given_up (lines_of R) s d s' e;
+      complete = λ w x s rest pre c e stop en. absurd (omega (arith, en.1));
+      reaches = λ w x s rest pre c e clear. tt;
     }
-    lines_turns (suc n) le =
+    lines_turns moves (suc n) le =
         let q : A → Reader (List A) = λ x. choose (seen l.Newline) (read_line n) (pure []) >>= λ xs. pure (x ∷ xs) in
         exact_map (lines_of R) (lines_of C) (lines_join R) (lines_split C)
         (exact_choose (turns_of effort (suc n)) begins (f.◌>>=◌ R (then_lines R)) (f.◌>>=◌ C (then_lines C)) (nothing []) (nothing []) h (p >>= q) (pure [])
@@ -226,19 +231,20 @@ module _ (effort : Effort) {A : Type 0} (R C : Form A) (begins g : Test) (p : Re
         (λ a x s m c e same en. one_less effort begins n a s m (heads a x [] c) e same en)
         (weaken _ ep)
         (λ x. exact_bind (λ xs. nothing (x ∷ xs)) (λ xs. nothing (x ∷ xs)) h (λ xs. pure (x ∷ xs))
-        (after_turns n (omega (arith, le)) (lines_turns n (omega (arith, le))))
+        (after_turns n (omega (arith, le)) (lines_turns moves n (omega (arith, le))))
         (λ xs. exact_pure (turns_of effort n) (x ∷ xs) h)
         (λ xs. ([], x ∷ xs, (refl, refl)))
         (λ xs b y rest d stop. subst (λ (t : List Token). Stops h (t ++ rest)) (sym d.0) stop))
         (λ x. ([], x ∷ [], ([], [], [], refl, inr (refl, refl), (refl, refl))))
-        (λ x b y rest d stop. let c = made_out (after_line C) (λ zs. x ∷ zs) b y d in after_halts b c.0 rest c.1 stop))
+        (λ x b y rest d stop. let c = made_out (after_line C) (λ zs. x ∷ zs) b y d in after_fails b c.0 rest c.1 stop))
         (weaken _ (exact_pure (turns_of effort (suc n)) [] h))
         (first_bind true begins C (then_lines C) heads)
-        (λ w xs rest d stop. subst (λ (t : List Token). Stops begins (t ++ rest)) (sym d.0) (stops_less begins h (λ found spaced e. (ends found spaced e).1) rest stop)))
+        (λ w xs rest d stop. subst (λ (t : List Token). Stops begins (t ++ rest)) (sym d.0) (stops_less begins h (λ found spaced e. (ends found spaced e).1) rest stop))
+        (λ xs s d clear is. (moves_bind moves (λ x. advances_bind (never_back (after_turns n (omega (arith, le)) (lines_turns moves n (omega (arith, le))))) (λ xs. advances_pure (x ∷ xs)))).beyond s clear is))
 
     -- What follows is no separator, begins no statement, and is none of what a statement goes on by.
-    pub exact_stmts : Exact effort Any (f.stmts R) (f.stmts C) h (stmts effort.turns begins p)
-    exact_stmts =
+    pub exact_stmts : Moves begins p → Exact effort Any (f.stmts R) (f.stmts C) h (stmts effort.turns begins p)
+    exact_stmts moves =
         exact_map (f.stmts R) (f.stmts C) (stmts_out R) (stmts_back C)
         (exact_bind (λ _. lines_of R) (λ _. lines_of C) h (λ _. lines effort.turns begins p effort.turns)
-        (exact_separators effort) (λ _. lines_turns effort.turns (omega arith)) (λ _. ([], [], refl)) (λ u b xs rest d stop. lines_halt b xs rest d stop))
+        (exact_separators effort) (λ _. lines_turns moves effort.turns (omega arith)) (λ _. ([], [], refl)) (λ u b xs rest d stop. lines_halt b xs rest d stop))

@@ -1,5 +1,6 @@
 -- Separators, what stands between two tokens, and lists.
 use Rattle.std.proofs.Common.{◌≡◌, ℕ, Bool, true, false, not, cond, List, [], ◌∷◌, ◌++◌, ◌⊎◌, inl, inr, refl, sym, ap, subst, ◌∙◌}
+use Rattle.std.proofs.lemmas.Bool.{and_from, and_parts}
 use Rattle.std.specs.Prelude.{Option, Some, None}
 use Rattle.std.proofs.lemmas.List.{append-nil}
 use Rattle.cr_syntax.specs.declared.look.TokenLook.{TokenLook}
@@ -10,22 +11,24 @@ use Rattle.cr_syntax.specs.declared.token.TokenKind.TheVariants as k
 use Rattle.cr_syntax.specs.Look.{look_of}
 use Rattle.cr_grammar.specs.Forms.{Form, nothing, ◌<|>◌, passing, maybe, word, is_tight, tight}
 use Rattle.cr_grammar.specs.Forms as f
-use Rattle.cr_exact.specs.Reader.{Reader, Test, passes, seen, tight_seen, either, never, expect, only, pure, many, ◌>>=◌, ◌>>◌, State, and_then, choose}
-use Rattle.cr_exact.specs.Lists.{optional, separators, comma, listed, parenthesized}
+use Rattle.cr_readers.specs.Reader.{Reader, Test, passes, seen, tight_seen, either, never, expect, only, pure, many, ◌>>=◌, ◌>>◌, State, and_then, choose}
+use Rattle.cr_readers.specs.Lists.{optional, separators, comma, listed, parenthesized}
 use Rattle.cr_exact.specs.Exact.{Stops, Effort, Exact, Any}
 use Rattle.cr_exact.proofs.TokenTests.{look_is_same, Apart, stops_left, stops_right, Not, never_stops, not_seen}
 use Rattle.cr_exact.proofs.Sequence.{exact_bind, exact_pure, exact_map, exact_goes, weaken}
 use Rattle.cr_exact.proofs.Tokens.{Passing, a_token, exact_word, exact_choose, exact_only}
 use Rattle.cr_exact.proofs.Forms.{made_out, no_seps, a_word}
-use Rattle.cr_exact.proofs.Heads.{Halts, NoLine, led_heads, many_stop, seps_halts, word_passes, Heads, first_bind, first_led}
+use Rattle.cr_exact.proofs.Heads.{Fails, NoLine, led_heads, many_stop, seps_fails, word_passes, Heads, first_bind, first_led}
 use Rattle.cr_exact.proofs.Loops.{exact_many}
+use Rattle.cr_exact.proofs.Sequence.{never_back}
+use Rattle.cr_exact.proofs.Moves.{Moves, moves_bind, moves_word, moves_tight, advances_bind, advances_many, advances_pure}
 
 -- ---- what separates
 
 pub exact_separators : (effort : Effort) → Exact effort Any f.seps f.seps (seen l.Newline) (separators effort.turns)
 exact_separators effort =
     let lines = exact_many effort (seen l.Newline) never (λ look spaced is. refl) (word l.Newline) (word l.Newline) (expect l.Newline)
-    (weaken _ (exact_word effort k.Newline never)) (word_passes l.Newline) in
+    (weaken _ (exact_word effort (k.Plain l.Newline) never)) (word_passes l.Newline) (moves_word l.Newline) in
     exact_bind (λ xs. nothing tt) (λ xs. nothing tt) (seen l.Newline) (λ xs. pure tt)
     (exact_goes (seen l.Newline) (λ look spaced e. rw e refl) lines)
     (λ xs. exact_pure effort tt (seen l.Newline))
@@ -35,7 +38,12 @@ exact_separators effort =
 pub exact_comma : (effort : Effort) → Exact effort Any f.comma f.comma (seen l.Newline) (comma effort.turns)
 exact_comma effort =
     exact_bind (λ at. f.seps) (λ at. f.seps) (seen l.Newline) (λ at. separators effort.turns)
-    (exact_word effort k.Comma never) (λ at. exact_separators effort) (λ at. ([], tt, no_seps)) (λ at b y rest d stop. never_stops (b ++ rest))
+    (exact_word effort (k.Plain l.Comma) never) (λ at. exact_separators effort) (λ at. ([], tt, no_seps)) (λ at b y rest d stop. never_stops (b ++ rest))
+
+pub listed_moves : {effort : Effort} {A : Type 0} {R C : Form A} {g : Test} {test : Test} (p : Reader A) → Exact effort Any R C g p → Moves test p → Moves test (listed effort.turns p)
+listed_moves {effort = effort} p ep moves =
+    moves_bind moves (λ x. advances_bind
+    (advances_many (seen l.Comma) (advances_bind (never_back (exact_comma effort)) (λ _. never_back ep)) effort.turns) (λ xs. advances_pure (x ∷ xs)))
 
 -- ---- a form whose first token passes a test
 
@@ -85,7 +93,26 @@ exact_passing {R = R} {p = p} Pre test must real w0 x0 some first ep = record {
           again = F.again;
         }
       ];
+  begun = λ s d s' pre is.
+      let F = ep.begun s d s' tt is in
+      record {
+        front = F.front;
+        parts = F.parts;
+        begins = λ some.
+            let B = F.begins some in (
+              B.0,
+              B.1,
+              (
+                elim (lead test F.front B.0 s'.rest (ap (passes test) (sym F.parts) ∙ must s.rest pre)) [
+                  | inl none ↦ absurd (some none)
+                  | inr led ↦ led
+                ],
+                B.2,
+              ),
+            );
+      };
   complete = λ w x s rest pre c. ep.complete w x s rest tt c.1;
+  reaches = λ w x s rest pre c. ep.reaches w x s rest tt c.1;
 }
 
 -- ---- between an opening and a closing token
@@ -116,8 +143,8 @@ module _ (effort : Effort) {A : Type 0} (kind : TokenKind) (x : A) where
 pub some_closed : {A : Type 0} (kind : TokenKind) (x : A) → closed (look_of kind) x (a_token kind ∷ []) x
 some_closed kind x = ([], a_token kind ∷ [], tt, refl, no_seps, a_word kind x)
 
-pub closed_halts : {A : Type 0} (g : Test) (close : TokenLook) (x : A) → Not l.Newline g → Not close g → Halts g (closed close x)
-closed_halts g close x line lets = seps_halts g line _ (λ u. first_led false close g _ lets)
+pub closed_fails : {A : Type 0} (g : Test) (close : TokenLook) (x : A) → Not l.Newline g → Not close g → Fails g (closed close x)
+closed_fails g close x line lets = seps_fails g line _ (λ u. first_led false close g _ lets)
 
 -- ---- what may be there
 
@@ -134,8 +161,8 @@ module _ {A : Type 0} where
 
 -- [ R ], where the reader is exact if R comes
 pub exact_optional_where : (effort : Effort) {A : Type 0} (R C : Form A) (g : Test) (p : Reader A) (test : Test)
-    → Exact effort (Passing test) R C g p → Heads test C → Exact effort Any (maybe R) (maybe C) (either test g) (optional test p)
-exact_optional_where effort R C g p test ep heads =
+    → Exact effort (Passing test) R C g p → Heads test C → Moves test p → Exact effort Any (maybe R) (maybe C) (either test g) (optional test p)
+exact_optional_where effort R C g p test ep heads moves =
     exact_map (maybe R) (maybe C) (optional_out R) (optional_back C)
     (exact_choose effort test (f.◌>>=◌ R (λ x. nothing (Some x))) (f.◌>>=◌ C (λ x. nothing (Some x))) (nothing None) (nothing None) (either test g)
     (p >>= λ x. pure (Some x)) (pure None)
@@ -144,7 +171,8 @@ exact_optional_where effort R C g p test ep heads =
     (λ x b y rest d stop. subst (λ (t : List Token). Stops g (t ++ rest)) (sym d.0) (stops_right test g rest stop)))
     (weaken _ (exact_pure effort None (either test g)))
     (first_bind true test C (λ x. nothing (Some x)) heads)
-    (λ w x rest d stop. subst (λ (t : List Token). Stops test (t ++ rest)) (sym d.0) (stops_left test g rest stop)))
+    (λ w x rest d stop. subst (λ (t : List Token). Stops test (t ++ rest)) (sym d.0) (stops_left test g rest stop))
+    (λ x s d clear is. (moves_bind moves (λ y. advances_pure (Some y))).beyond s clear is))
 
 passes_same : (test a : Test) → ((found : TokenLook) (spaced : Bool) → test found spaced ≡ a found spaced) → (ts : List Token) → passes test ts ≡ passes a ts
 passes_same test a same [] = refl
@@ -162,17 +190,9 @@ optional_same test a same p q s =
 
 -- ---- tight
 
-tight_not : (b c : Bool) → cond b false c ≡ true → not b ≡ true
-tight_not true c e = absurd cc
-tight_not false c e = refl
-
-not_tight : (b c : Bool) → not b ≡ true → c ≡ true → cond b false c ≡ true
-not_tight true c e is = absurd cc
-not_tight false c e is = is
-
 passes_tight : (look : TokenLook) (w rest : List Token) → is_tight w ≡ true → passes (seen look) (w ++ rest) ≡ true → passes (tight_seen look) (w ++ rest) ≡ true
 passes_tight opening [] rest tight is = absurd cc
-passes_tight opening (t ∷ ts) rest tight is = not_tight t.spaced _ tight is
+passes_tight opening (t ∷ ts) rest tight is = and_from (not t.spaced) _ tight is
 
 not_empty : (test : Test) (w : List Token) → passes test (w ++ []) ≡ true → w ≡ [] → ⊥
 not_empty test [] is e = cc
@@ -191,7 +211,7 @@ tight_same (t ∷ ts) = refl
 
 tight_of : (look : TokenLook) (ts : List Token) → passes (tight_seen look) ts ≡ true → passes tight_only ts ≡ true
 tight_of opening [] is = absurd cc
-tight_of opening (t ∷ ts) is = tight_not t.spaced _ is
+tight_of opening (t ∷ ts) is = (and_parts (not t.spaced) _ is).0
 
 -- The reader of a form that begins with a word is exact for it where that is tight.
 pub exact_tight : {effort : Effort} {A : Type 0} {R C : Form A} {g : Test} {p : Reader A} (look : TokenLook) → Heads (seen look) R
@@ -210,13 +230,19 @@ pub exact_maybe_word : (effort : Effort) (kind : TokenKind)
 exact_maybe_word effort kind =
     exact_optional_where effort (tight (word (look_of kind))) (tight (word (look_of kind))) never (expect (look_of kind)) (tight_seen (look_of kind))
     (exact_tight_word effort kind never) (tight_heads (look_of kind) (word (look_of kind)) (word_passes (look_of kind)))
+    (moves_tight (look_of kind) (moves_word (look_of kind)))
 
 -- ---- lists
 
 module _ (effort : Effort) {A : Type 0} (R C : Form A) (g : Test) (p : Reader A) (ep : Exact effort Any R C g p) where
   -- [ R ]
-  pub exact_optional : (test : Test) → Heads test C → Exact effort Any (maybe R) (maybe C) (either test g) (optional test p)
-  exact_optional test heads = exact_optional_where effort R C g p test (weaken _ ep) heads
+  pub exact_optional : (test : Test) → Heads test C → Moves test p → Exact effort Any (maybe R) (maybe C) (either test g) (optional test p)
+  exact_optional test heads moves = exact_optional_where effort R C g p test (weaken _ ep) heads moves
+
+  pub parenthesized_moves : Moves (seen l.OpenParenthesis) (parenthesized effort.turns p)
+  parenthesized_moves =
+      moves_bind (moves_word l.OpenParenthesis) (λ _. advances_bind (never_back (exact_separators effort)) (λ _. advances_bind (never_back ep)
+      (λ x. never_back (exact_closed effort (k.Plain l.CloseParenthesis) x (λ e. cc)))))
 
   module _ (lineless : NoLine C) (w0 : List Token) (x0 : A) (some : R w0 x0) where
     one_more : Exact effort Any (f.◌>>◌ f.comma R) (f.◌>>◌ f.comma C) g (comma effort.turns >> p)
@@ -230,7 +256,8 @@ module _ (effort : Effort) {A : Type 0} (R C : Form A) (g : Test) (p : Reader A)
         ep
         (λ x. exact_bind (λ xs. nothing (x ∷ xs)) (λ xs. nothing (x ∷ xs)) (either (seen l.Comma) g) (λ xs. pure (x ∷ xs))
         (exact_many effort (seen l.Comma) g apart (f.◌>>◌ f.comma R) (f.◌>>◌ f.comma C) (comma effort.turns >> p) (weaken _ one_more)
-        (first_bind true (seen l.Comma) f.comma (λ _. C) (led_heads l.Comma (λ _. f.seps))))
+        (first_bind true (seen l.Comma) f.comma (λ _. C) (led_heads l.Comma (λ _. f.seps)))
+        (moves_bind (moves_bind (moves_word l.Comma) (λ _. never_back (exact_separators effort))) (λ _. never_back ep)))
         (λ xs. exact_pure effort (x ∷ xs) (either (seen l.Comma) g))
         (λ xs. ([], x ∷ xs, (refl, refl)))
         (λ xs b y rest d stop. subst (λ (t : List Token). Stops (either (seen l.Comma) g) (t ++ rest)) (sym d.0) stop))
@@ -256,7 +283,7 @@ module _ (effort : Effort) {A : Type 0} (R C : Form A) (g : Test) (p : Reader A)
         (exact_separators effort)
         (λ _. exact_bind (λ x. closed (look_of closes) x) (λ x. closed (look_of closes) x) never (λ x. read_closed effort.turns (look_of closes) x)
         ep (λ x. exact_closed effort closes x other) (λ x. (a_token closes ∷ [], x, some_closed closes x))
-        (λ x b y rest d stop. closed_halts g (look_of closes) x line close b y rest d))
+        (λ x b y rest d stop. closed_fails g (look_of closes) x line close b y rest d))
         (λ _. (w0 ++ (a_token closes ∷ []), x0, some_inner closes))
         (λ u b y rest d stop. first_bind false (seen l.Newline) C (λ x. closed (look_of closes) x) lineless b y rest d))
         (λ _. (w0 ++ (a_token closes ∷ []), x0, ([], w0 ++ (a_token closes ∷ []), tt, refl, no_seps, some_inner closes)))
@@ -264,16 +291,16 @@ module _ (effort : Effort) {A : Type 0} (R C : Form A) (g : Test) (p : Reader A)
 
     -- "(" R ")"
     pub exact_parenthesized : Not l.Newline g → Not l.CloseParenthesis g → Exact effort Any (f.parenthesized R) (f.parenthesized C) never (parenthesized effort.turns p)
-    exact_parenthesized line close = exact_between k.OpenParenthesis k.CloseParenthesis (λ e. cc) line close
+    exact_parenthesized line close = exact_between (k.Plain l.OpenParenthesis) (k.Plain l.CloseParenthesis) (λ e. cc) line close
 
-    some_parenthesized : f.parenthesized R (a_token k.OpenParenthesis ∷ (w0 ++ (a_token k.CloseParenthesis ∷ []))) x0
+    some_parenthesized : f.parenthesized R (a_token (k.Plain l.OpenParenthesis) ∷ (w0 ++ (a_token (k.Plain l.CloseParenthesis) ∷ []))) x0
     some_parenthesized = (
-      a_token k.OpenParenthesis ∷ [],
-      w0 ++ (a_token k.CloseParenthesis ∷ []),
+      a_token (k.Plain l.OpenParenthesis) ∷ [],
+      w0 ++ (a_token (k.Plain l.CloseParenthesis) ∷ []),
       0,
       refl,
-      (a_token k.OpenParenthesis, refl, (refl, refl)),
-      ([], w0 ++ (a_token k.CloseParenthesis ∷ []), tt, refl, no_seps, some_inner k.CloseParenthesis),
+      (a_token (k.Plain l.OpenParenthesis), refl, (refl, refl)),
+      ([], w0 ++ (a_token (k.Plain l.CloseParenthesis) ∷ []), tt, refl, no_seps, some_inner (k.Plain l.CloseParenthesis)),
     )
 
     pub tight_parenthesized : Not l.Newline g → Not l.CloseParenthesis g
@@ -286,7 +313,8 @@ module _ (effort : Effort) {A : Type 0} (R C : Form A) (g : Test) (p : Reader A)
     exact_maybe_tight line close =
         exact_goes (tight_seen l.OpenParenthesis) (λ look spaced e. rw e refl)
         (exact_optional_where effort (tight (f.parenthesized R)) (tight (f.parenthesized C)) never (parenthesized effort.turns p) (tight_seen l.OpenParenthesis)
-        (tight_parenthesized line close) (tight_heads l.OpenParenthesis (f.parenthesized C) (led_heads l.OpenParenthesis _)))
+        (tight_parenthesized line close) (tight_heads l.OpenParenthesis (f.parenthesized C) (led_heads l.OpenParenthesis _))
+        (moves_tight l.OpenParenthesis parenthesized_moves))
 
     -- tight "(" R ")"
     pub exact_only_tight : Not l.Newline g → Not l.CloseParenthesis g

@@ -4,12 +4,19 @@ use Rattle.std.proofs.lemmas.List.{length-append, append-nil}
 use Rattle.cr_syntax.specs.declared.token.Token.{Token}
 use Rattle.cr_grammar.specs.Forms.{Form, nothing, ◌<|>◌}
 use Rattle.cr_grammar.specs.Forms as f
-use Rattle.cr_exact.specs.Reader.{State, Reader, Test, passes, ◌>>=◌, pure, either, many, repeated}
-use Rattle.cr_exact.specs.Exact.{Stops, Effort, Enough, Exact, Any}
+use Rattle.cr_readers.specs.declared.fault.ParseFault.{ParseFault}
+use Rattle.cr_readers.specs.Reader.{State, Outcome, Failed, Reader, Test, give_up, passes, ◌>>=◌, pure, either, many, repeated}
+use Rattle.cr_exact.specs.Exact.{Stops, Effort, Enough, Begins, Exact, Any}
 use Rattle.cr_exact.proofs.TokenTests.{stops_left, stops_right, Apart}
-use Rattle.cr_exact.proofs.Sequence.{exact_bind_by, exact_bind, exact_pure, exact_map, weaken}
+use Rattle.cr_exact.proofs.Sequence.{exact_bind_by, exact_bind, exact_pure, exact_map, weaken, begins_here}
 use Rattle.cr_exact.proofs.Tokens.{Passing, exact_choose}
-use Rattle.cr_exact.proofs.Heads.{Heads, many_stop, repeated_stop, heads_halts}
+use Rattle.cr_exact.proofs.Sequence.{never_back}
+use Rattle.cr_exact.proofs.Moves.{Moves, moves_bind, advances_bind, advances_pure}
+use Rattle.cr_exact.proofs.Heads.{Heads, many_stop, repeated_stop, heads_fails}
+
+-- Where no turn is left nothing is read.
+pub given_up : {A : Type 0} (R : Form A) (s : State) (e : ParseFault) (s' : State) → let outcome : Outcome A = give_up s in outcome ≡ Failed e s' → Begins R s s'
+given_up R s e s' is = begins_here R s s' (let same : s ≡ s' = cc in ap (λ (m : State). m.rest) same)
 
 -- with so many turns
 abbrev pub turns_of : Effort → ℕ → Effort
@@ -21,12 +28,12 @@ some_length test (t ∷ ts) is = omega arith
 
 -- what is enough with fewer turns
 pub fewer : (effort : Effort) (n : ℕ) → n ≤ effort.turns → (s : State) → Enough (turns_of effort n) s → Enough effort s
-fewer effort n le s is = (is.0, is.1, omega (arith, is.2, le))
+fewer effort n le s is = (is.0, omega (arith, is.1, le))
 
 -- behind what is not empty one turn less is enough
 pub one_less : (effort : Effort) (test : Test) (n : ℕ) (a : List Token) (s m : State) → passes test (a ++ []) ≡ true → s.rest ≡ a ++ m.rest → m.limited ≡ s.limited
     → Enough (turns_of effort (suc n)) s → Enough (turns_of effort n) m
-one_less effort test n a s m is e same en = (en.0, same ∙ en.1, omega (arith, en.2, ap length e, length-append a m.rest, some_length test a is))
+one_less effort test n a s m is e same en = (en.0, omega (arith, en.1, ap length e, length-append a m.rest, some_length test a is))
 
 module _ (effort : Effort) (test : Test) (g : Test) (apart : Apart test g) where
   abbrev h : Test
@@ -34,7 +41,7 @@ module _ (effort : Effort) (test : Test) (g : Test) (apart : Apart test g) where
 
   -- ---- a list
 
-  module _ {A : Type 0} (R C : Form A) (p : Reader A) (ep : Exact effort (Passing test) R C g p) (heads : Heads test C) where
+  module _ {A : Type 0} (R C : Form A) (p : Reader A) (ep : Exact effort (Passing test) R C g p) (heads : Heads test C) (moves : Moves test p) where
     abbrev more_of : Form A → Form (List A)
     more_of Q = f.◌>>=◌ Q (λ x. f.◌>>=◌ (f.many Q) (λ xs. nothing (x ∷ xs)))
 
@@ -52,7 +59,9 @@ module _ (effort : Effort) (test : Test) (g : Test) (apart : Apart test g) where
     many_turns zero le = record {
       found = λ s x s' pre e. absurd cc;
       refused = λ s u s' pre e. absurd cc;
-      complete = λ w x s rest pre c e stop. (tt, λ en. absurd (omega (arith, en.2)));
+      begun = λ s d s' pre e. given_up (f.many R) s d s' e;
+      complete = λ w x s rest pre c e stop en. absurd (omega (arith, en.1));
+      reaches = λ w x s rest pre c e clear. tt;
     }
     many_turns (suc n) le =
         exact_map (f.many R) (f.many C) (many_out R) (many_back C)
@@ -70,10 +79,11 @@ module _ (effort : Effort) (test : Test) (g : Test) (apart : Apart test g) where
         (λ xs. ([], x ∷ xs, (refl, refl)))
         (λ xs b y rest d stop. rw d.0 stop))
         (λ x. ([], x ∷ [], ([], [], [], refl, refl, (refl, refl))))
-        (λ x b y rest d stop. subst (λ (t : List Token). Stops g (t ++ rest)) (sym (d.3 ∙ ap (λ (t : List Token). d.0 ++ t) d.5.0 ∙ append-nil d.0)) (many_stop g C (heads_halts test g C heads apart) d.0 d.2 rest d.4 (stops_right test g rest stop))))
+        (λ x b y rest d stop. subst (λ (t : List Token). Stops g (t ++ rest)) (sym (d.3 ∙ ap (λ (t : List Token). d.0 ++ t) d.5.0 ∙ append-nil d.0)) (many_stop g C (heads_fails test g C heads apart) d.0 d.2 rest d.4 (stops_right test g rest stop))))
         (weaken _ (exact_pure _ [] h))
         (λ w xs rest c. ap (λ (t : List Token). passes test (t ++ rest)) c.3 ∙ ap (passes test) (append_assoc c.0 c.1 rest) ∙ heads c.0 c.2 (c.1 ++ rest) c.4)
-        (λ w xs rest d stop. rw d.0 (stops_left test g rest stop)))
+        (λ w xs rest d stop. rw d.0 (stops_left test g rest stop))
+        (λ xs s d clear is. (moves_bind moves (λ x. advances_bind (never_back (many_turns n (omega (arith, le)))) (λ xs. advances_pure (x ∷ xs)))).beyond s clear is))
 
     -- { R }
     pub exact_many : Exact effort Any (f.many R) (f.many C) h (many test p effort.turns)
@@ -81,7 +91,7 @@ module _ (effort : Effort) (test : Test) (g : Test) (apart : Apart test g) where
 
   -- ---- each time with what the time before gave
 
-  module _ {A : Type 0} (R C : A → Form A) (p : A → Reader A) (ep : (x : A) → Exact effort (Passing test) (R x) (C x) g (p x)) (heads : (x : A) → Heads test (C x)) where
+  module _ {A : Type 0} (R C : A → Form A) (p : A → Reader A) (ep : (x : A) → Exact effort (Passing test) (R x) (C x) g (p x)) (heads : (x : A) → Heads test (C x)) (moves : (x : A) → Moves test (p x)) where
     again_out : (Q : A → Form A) (x : A) (w : List Token) (y : A) → (f.◌>>=◌ (Q x) (f.repeated Q) <|> nothing x) w y → f.repeated Q x w y
     again_out Q x w y (inl c) = (suc c.5.0, (c.0, c.1, c.2, c.3, c.4, c.5.1))
     again_out Q x w y (inr c) = (0, c)
@@ -94,7 +104,9 @@ module _ (effort : Effort) (test : Test) (g : Test) (apart : Apart test g) where
     repeated_turns zero le x = record {
       found = λ s y s' pre e. absurd cc;
       refused = λ s u s' pre e. absurd cc;
-      complete = λ w y s rest pre c e stop. (tt, λ en. absurd (omega (arith, en.2)));
+      begun = λ s d s' pre e. given_up (f.repeated R x) s d s' e;
+      complete = λ w y s rest pre c e stop en. absurd (omega (arith, en.1));
+      reaches = λ w y s rest pre c e clear. tt;
     }
     repeated_turns (suc n) le x =
         exact_map (f.repeated R x) (f.repeated C x) (again_out R x) (λ w y c. again_back C x c.0 w y c.1)
@@ -106,10 +118,11 @@ module _ (effort : Effort) (test : Test) (g : Test) (apart : Apart test g) where
         (ep x)
         (λ y. repeated_turns n (omega (arith, le)) y)
         (λ y. ([], y, (0, (refl, refl))))
-        (λ y b z rest d stop. repeated_stop g C (λ x. heads_halts test g (C x) (heads x) apart) d.0 y b z rest d.1 (stops_right test g rest stop)))
+        (λ y b z rest d stop. repeated_stop g C (λ x. heads_fails test g (C x) (heads x) apart) d.0 y b z rest d.1 (stops_right test g rest stop)))
         (weaken _ (exact_pure _ x h))
         (λ w y rest c. ap (λ (t : List Token). passes test (t ++ rest)) c.3 ∙ ap (passes test) (append_assoc c.0 c.1 rest) ∙ heads x c.0 c.2 (c.1 ++ rest) c.4)
-        (λ w y rest d stop. rw d.0 (stops_left test g rest stop)))
+        (λ w y rest d stop. rw d.0 (stops_left test g rest stop))
+        (λ y s d clear is. (moves_bind (moves x) (λ y. never_back (repeated_turns n (omega (arith, le)) y))).beyond s clear is))
 
     pub exact_repeated : (x : A) → Exact effort Any (f.repeated R x) (f.repeated C x) h (repeated test p effort.turns x)
     exact_repeated x = repeated_turns effort.turns (omega arith) x

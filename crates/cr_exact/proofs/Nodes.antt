@@ -1,34 +1,36 @@
 -- Steps that read no token: they count nodes and nesting, or look back.
-use Rattle.std.proofs.Common.{◌≡◌, ℕ, ◌+◌, max, Bool, true, false, cond, List, [], ◌∷◌, ◌++◌, inl, inr, refl, sym, ap, subst, ◌∙◌}
+use Rattle.std.proofs.Common.{◌≡◌, ℕ, max, Bool, true, false, cond, List, [], ◌∷◌, ◌++◌, inl, inr, refl, sym, ap, subst, ◌∙◌}
+use Rattle.std.proofs.lemmas.Bool.{and_parts}
 use Rattle.cr_syntax.specs.declared.look.TokenLook.{TokenLook}
 use Rattle.cr_syntax.specs.declared.token.Token.{Token}
 use Rattle.cr_syntax.specs.Look.{look_of}
 use Rattle.cr_grammar.specs.Forms.{Form, last_look, with_last}
-use Rattle.cr_exact.specs.declared.fault.ParseFault.{ParseFault}
-use Rattle.cr_exact.specs.declared.fault.ParseFault.TheVariants.{Unexpected, TooDeep, TooManyNodes, NoMemory}
-use Rattle.cr_exact.specs.Reader.{State, Outcome, Found, Failed, Reader, Test, and_then, ◌>>=◌, ◌>>◌, pure, node_above, grow, wrap, around, deeper, shallower, above_part, unchanged, part, beside, last}
-use Rattle.cr_exact.specs.Exact.{at, head, last_from, Stops, Effort, Enough, Ends, Finds, Refuses, Exact}
-use Rattle.cr_exact.proofs.Sequence.{bind_found, bind_refused, parts_found, ends_less}
+use Rattle.cr_readers.specs.declared.fault.ParseFault.{ParseFault}
+use Rattle.cr_readers.specs.declared.fault.ParseFault.TheVariants.{Unexpected, TooDeep, TooManyNodes, NoMemory}
+use Rattle.cr_readers.specs.Reader.{State, Outcome, Found, Failed, Reader, Test, and_then, ◌>>=◌, ◌>>◌, pure, node_above, grow, wrap, around, deeper, shallower, above_part, unchanged, part, beside, last}
+use Rattle.cr_exact.specs.Exact.{at, head, last_from, Stops, Effort, Enough, Ends, MayStop, Finds, Refuses, Begins, Exact}
+use Rattle.cr_exact.proofs.Sequence.{bind_found, bind_refused, parts_found, ends_less, begins_here}
+use Rattle.std.proofs.lemmas.List.{append_cancel_right}
+use Rattle.cr_exact.specs.Exact.{Reaches, Clear}
 
--- A step that reads no token, refuses none, and knows no limit where there is none.
+-- A step that reads no token, and is stopped by a limit alone.
 pub record IsSilent (q : Reader (Unit {0})) : Type 0 where
   pub keeps : (s s' : State) (rest : List Token) → q s ≡ Found tt s' → q (at s rest) ≡ Found tt (at s' rest)
   pub stays : (s s' : State) → q s ≡ Found tt s' → (s'.rest ≡ s.rest) × (s'.before ≡ s.before) × (s'.limited ≡ s.limited)
-  pub accepts : (s s' : State) (n : ℕ) → q s ≡ Failed (Unexpected n) s' → ⊥
-  pub lets : (s s' : State) (e : ParseFault) → s.limited ≡ false → q s ≡ Failed e s' → ⊥
+  pub fails : (s s' : State) (e : ParseFault) → q s ≡ Failed e s' → MayStop (Unit {0}) s.limited e × (s.rest ≡ s'.rest)
 
 silent_ends : {A : Type 0} (o : Outcome (Unit {0})) (p : Reader A) (enough : Type 0) (x : A) (before : TokenLook) (rest : List Token) (limited : Bool)
     → ((m : State) → o ≡ Found tt m → Ends enough (p m) x before rest limited)
-    → ((m : State) (n : ℕ) → o ≡ Failed (Unexpected n) m → ⊥) → (enough → (m : State) (e : ParseFault) → o ≡ Failed e m → ⊥)
+    → ((m : State) (e : ParseFault) → o ≡ Failed e m → MayStop (Unit {0}) limited e)
     → Ends enough (and_then o (λ _. p)) x before rest limited
-silent_ends (Found u m) p enough x before rest limited go bad none = go m refl
-silent_ends (Failed (Unexpected n) m) p enough x before rest limited go bad none = absurd (bad m n refl)
-silent_ends (Failed (TooDeep n) m) p enough x before rest limited go bad none = (tt, λ is. none is m (TooDeep n) refl)
-silent_ends (Failed (TooManyNodes n) m) p enough x before rest limited go bad none = (tt, λ is. none is m (TooManyNodes n) refl)
-silent_ends (Failed NoMemory m) p enough x before rest limited go bad none = (tt, λ is. none is m NoMemory refl)
+silent_ends (Found u m) p enough x before rest limited go bad = go m refl
+silent_ends (Failed (Unexpected n) m) p enough x before rest limited go bad = bad m (Unexpected n) refl
+silent_ends (Failed (TooDeep n) m) p enough x before rest limited go bad = bad m (TooDeep n) refl
+silent_ends (Failed (TooManyNodes n) m) p enough x before rest limited go bad = bad m (TooManyNodes n) refl
+silent_ends (Failed NoMemory m) p enough x before rest limited go bad = λ is. bad m NoMemory refl tt
 
 enough_same : (effort : Effort) (s m : State) → m.rest ≡ s.rest → m.limited ≡ s.limited → Enough effort s → Enough effort m
-enough_same effort s m e same h = (h.0, same ∙ h.1, rw e h.2)
+enough_same effort s m e same h = (h.0, rw e h.1)
 
 module _ {effort : Effort} {A : Type 0} {Pre : List Token → Type 0} {R C : Form A} {g : Test} (q : Reader (Unit {0})) (silent : IsSilent q) (p : Reader A) (ep : Exact effort Pre R C g p) where
   silent-found : (s : State) (x : A) (s' : State) → Pre s.rest → (q >> p) s ≡ Found x s' → Finds R (q >> p) s x s'
@@ -47,7 +49,7 @@ module _ {effort : Effort} {A : Type 0} {Pre : List Token → Type 0} {R C : For
   silent-refused : (s : State) (n : ℕ) (s' : State) → Pre s.rest → (q >> p) s ≡ Failed (Unexpected n) s' → Refuses R (q >> p) s n s'
   silent-refused s n s' pre e =
       elim (bind_refused (q s) (λ _. p) (Unexpected n) s' e) [
-        | inl b ↦ absurd (silent.accepts s s' n b)
+        | inl b ↦ absurd (silent.fails s s' (Unexpected n) b).0
         | inr b ↦
             let K = silent.stays s b.1 b.2 in
             let F = ep.refused b.1 n s' (rw K.0 pre) b.3 in
@@ -62,6 +64,16 @@ module _ {effort : Effort} {A : Type 0} {Pre : List Token → Type 0} {R C : For
             }
       ]
 
+  silent-begun : (s : State) (e : ParseFault) (s' : State) → Pre s.rest → (q >> p) s ≡ Failed e s' → Begins R s s'
+  silent-begun s e s' pre failed =
+      elim (bind_refused (q s) (λ _. p) e s' failed) [
+        | inl b ↦ begins_here R s s' (silent.fails s s' e b).1
+        | inr b ↦
+            let K = silent.stays s b.1 b.2 in
+            let F = ep.begun b.1 e s' (rw K.0 pre) b.3 in
+            record { front = F.front; parts = sym K.0 ∙ F.parts; begins = F.begins }
+      ]
+
   silent-complete : (w : List Token) (x : A) (s : State) (rest : List Token) → Pre s.rest → C w x → s.rest ≡ w ++ rest → Stops g rest
       → Ends (Enough effort s) ((q >> p) s) x (last_from s.before w) rest s.limited
   silent-complete w x s rest pre c e stop =
@@ -72,11 +84,25 @@ module _ {effort : Effort} {A : Type 0} {Pre : List Token → Type 0} {R C : For
       let less = ends_less (Enough effort m) (Enough effort s) (p m) x (last_from m.before w) rest m.limited (enough_same effort s m K.0 K.2) inner in
       subst (λ v. Ends (Enough effort s) (p m) x (last_from v w) rest s.limited) K.1
       (subst (λ v. Ends (Enough effort s) (p m) x (last_from m.before w) rest v) K.2 less))
-      (λ m n is. silent.accepts s m n is)
-      (λ en m d is. silent.lets s m d en.1 is)
+      (λ m d is. (silent.fails s m d is).0)
+
+  silent-reaches : (x : A) (s : State) (rest : List Token) → ((m : State) → q s ≡ Found tt m → Reaches (p m) x rest) → (o : Outcome (Unit {0})) → q s ≡ o
+      → Reaches (and_then o (λ _. p)) x rest
+  silent-reaches x s rest go (Found u m) e = go m e
+  silent-reaches x s rest go (Failed (Unexpected n) m) e = absurd (silent.fails s m (Unexpected n) e).0
+  silent-reaches x s rest go (Failed (TooDeep n) m) e = tt
+  silent-reaches x s rest go (Failed (TooManyNodes n) m) e = tt
+  silent-reaches x s rest go (Failed NoMemory m) e = tt
 
   pub exact_silent : Exact effort Pre R C g (q >> p)
-  exact_silent = record { found = silent-found; refused = silent-refused; complete = silent-complete }
+  exact_silent = record {
+    found = silent-found;
+    refused = silent-refused;
+    begun = silent-begun;
+    complete = silent-complete;
+    reaches = λ w x s rest pre c e clear.
+        silent-reaches x s rest (λ m is. let K = silent.stays s m is in ep.reaches w x m rest (rw K.0 pre) c (K.0 ∙ e) clear) (q s) refl;
+  }
 
 -- ---- nodes
 
@@ -86,23 +112,24 @@ passed true c s m s' n o e = absurd cc
 passed false true s m s' n o e = absurd cc
 passed false false s m s' n o e = (refl, refl, cc)
 
-not_unexpected : (b c : Bool) (s m s' : State) (n o u : ℕ) → let outcome : Outcome (Unit {0}) = cond b (Failed (TooDeep n) s) (cond c (Failed (TooManyNodes o) s) (Found tt m)) in outcome ≡ Failed (Unexpected u) s' → ⊥
-not_unexpected true c s m s' n o u e = cc
-not_unexpected false true s m s' n o u e = cc
-not_unexpected false false s m s' n o u e = cc
-
-lets_through : (place height : ℕ) (s s' : State) (e : ParseFault) → s.limited ≡ false → node_above place height s ≡ Failed e s' → ⊥
-lets_through place height s s' e free is =
-    let open_ : node_above place height s ≡ Found tt (record s { nodes = s.nodes + 1; height = height + 1 }) = rw free refl in
-    let both : Found tt (record s { nodes = s.nodes + 1; height = height + 1 }) ≡ Failed e s' = sym open_ ∙ is in
-    cc
+stopped : (b c limited : Bool) (s m s' : State) (n o : ℕ) (e : ParseFault) → (b ≡ true → limited ≡ true) → (c ≡ true → limited ≡ true)
+    → let outcome : Outcome (Unit {0}) = cond b (Failed (TooDeep n) s) (cond c (Failed (TooManyNodes o) s) (Found tt m)) in outcome ≡ Failed e s'
+    → MayStop (Unit {0}) limited e × (s.rest ≡ s'.rest)
+stopped true c limited s m s' n o e deep many is =
+    let fault : TooDeep n ≡ e = cc in
+    let same : s ≡ s' = cc in
+    (subst (MayStop (Unit {0}) limited) fault (deep refl), ap (λ (v : State). v.rest) same)
+stopped false true limited s m s' n o e deep many is =
+    let fault : TooManyNodes o ≡ e = cc in
+    let same : s ≡ s' = cc in
+    (subst (MayStop (Unit {0}) limited) fault (many refl), ap (λ (v : State). v.rest) same)
+stopped false false limited s m s' n o e deep many is = absurd cc
 
 pub silent_above : (place height : ℕ) → IsSilent (node_above place height)
 silent_above place height = record {
   keeps = λ s s' rest e. let c = passed _ _ s _ s' _ _ e in rw (c.0, c.1) (ap (λ (m : State). Found tt (at m rest)) c.2);
   stays = λ s s' e. let c = passed _ _ s _ s' _ _ e in (ap (λ (m : State). m.rest) (sym c.2), ap (λ (m : State). m.before) (sym c.2), ap (λ (m : State). m.limited) (sym c.2));
-  accepts = λ s s' n e. not_unexpected _ _ s _ s' _ _ n e;
-  lets = lets_through place height;
+  fails = λ s s' e is. stopped _ _ s.limited s _ s' _ _ e (λ deep. (and_parts s.limited _ deep).0) (λ many. (and_parts s.limited _ many).0) is;
 }
 
 pub silent_grow : (place : ℕ) → IsSilent (grow place)
@@ -114,16 +141,14 @@ unfolding wrap
 silent_wrap place = record {
   keeps = λ s s' rest e. (silent_above place s.height).keeps s s' rest e;
   stays = λ s s' e. (silent_above place s.height).stays s s' e;
-  accepts = λ s s' n e. (silent_above place s.height).accepts s s' n e;
-  lets = λ s s' e free is. (silent_above place s.height).lets s s' e free is;
+  fails = λ s s' e is. (silent_above place s.height).fails s s' e is;
 }
 
 pub silent_pure : IsSilent (pure tt)
 silent_pure = record {
   keeps = λ s s' rest e. ap (λ (m : State). Found tt (at m rest)) (parts_found tt tt s s' e).1;
   stays = λ s s' e. let is = (parts_found tt tt s s' e).1 in (ap (λ (m : State). m.rest) (sym is), ap (λ (m : State). m.before) (sym is), ap (λ (m : State). m.limited) (sym is));
-  accepts = λ s s' n e. cc;
-  lets = λ s s' fault free e. cc;
+  fails = λ s s' fault e. absurd cc;
 }
 
 -- A silent step is silent beside what was read last.
@@ -160,8 +185,7 @@ module _ (q : Reader (Unit {0})) (silent : IsSilent q) where
         let c = beside_found s s' e in
         let stays = silent.stays (inside s) c.0 c.1 in
         (ap (λ (m : State). m.rest) (sym c.2) ∙ stays.0, ap (λ (m : State). m.before) (sym c.2) ∙ stays.1, ap (λ (m : State). m.limited) (sym c.2) ∙ stays.2);
-    accepts = λ s s' n e. silent.accepts (inside s) s' n (beside_fails s s' (Unexpected n) e);
-    lets = λ s s' fault free e. silent.lets (inside s) s' fault free (beside_fails s s' fault e);
+    fails = λ s s' fault e. silent.fails (inside s) s' fault (beside_fails s s' fault e);
   }
 
 -- ---- at another depth
@@ -209,16 +233,32 @@ module _ {effort : Effort} {A : Type 0} {Pre : List Token → Type 0} {R C : For
         | inr b ↦ absurd cc
       ]
 
+  around-begun : (s : State) (e : ParseFault) (s' : State) → Pre s.rest → now s ≡ Failed e s' → Begins R s s'
+  around-begun s e s' pre failed =
+      elim (bind_refused (p (entered s)) (λ y m. Found y (left s.height m)) e s' failed) [
+        | inl b ↦ let F = ep.begun (entered s) e s' pre b in record { front = F.front; parts = F.parts; begins = F.begins }
+        | inr b ↦ absurd cc
+      ]
+
   around_ends : (o : Outcome A) (height : ℕ) (enough : Type 0) (x : A) (before : TokenLook) (rest : List Token) (limited : Bool)
       → Ends enough o x before rest limited → Ends enough (and_then o (λ y m. Found y (left height m))) x before rest limited
   around_ends (Found y m) height enough x before rest limited e = e
   around_ends (Failed d m) height enough x before rest limited e = e
 
+  around_reaches : (o : Outcome A) (height : ℕ) (x : A) (rest : List Token) → Reaches o x rest → Reaches (and_then o (λ y m. Found y (left height m))) x rest
+  around_reaches (Found y m) height x rest r = r
+  around_reaches (Failed (Unexpected n) m) height x rest r = r
+  around_reaches (Failed (TooDeep n) m) height x rest r = tt
+  around_reaches (Failed (TooManyNodes n) m) height x rest r = tt
+  around_reaches (Failed NoMemory m) height x rest r = tt
+
   pub exact_around : Exact effort Pre R C g now
   exact_around = record {
     found = around-found;
     refused = around-refused;
+    begun = around-begun;
     complete = λ w x s rest pre c e stop. around_ends (p (entered s)) s.height _ x _ rest _ (ep.complete w x (entered s) rest pre c e stop);
+    reaches = λ w x s rest pre c e clear. around_reaches (p (entered s)) s.height x rest (ep.reaches w x (entered s) rest pre c e clear);
   }
 
 pub exact_part : {effort : Effort} {A : Type 0} {Pre : List Token → Type 0} {R C : Form A} {g : Test} (p : Reader A) → Exact effort Pre R C g p → Exact effort Pre R C g (part p)
@@ -274,6 +314,19 @@ module _ {effort : Effort} {A : Type 0} {Pre : List Token → Type 0} {R C : For
         | inr b ↦ absurd cc
       ]
 
+  last-begun : (s : State) (e : ParseFault) (s' : State) → Pre s.rest → both s ≡ Failed e s' → Begins (with_last R) s s'
+  last-begun s e s' pre failed =
+      elim (bind_refused (p s) (λ y. last >>= λ look. pure (y, look)) e s' failed) [
+        | inl b ↦
+            let F = ep.begun s e s' pre b in
+            record {
+              front = F.front;
+              parts = F.parts;
+              begins = λ some. let B = F.begins some in (B.0, (B.1, last_look (F.front ++ B.0)), (B.2, refl));
+            }
+        | inr b ↦ absurd cc
+      ]
+
   last_ends : (o : Outcome A) (enough : Type 0) (x : A × TokenLook) (before : TokenLook) (rest : List Token) (limited : Bool) → before ≡ x.1
       → Ends enough o x.0 before rest limited → Ends enough (and_then o (λ y. last >>= λ look. pure (y, look))) x before rest limited
   last_ends (Found y m) enough x before rest limited is e = (λ i. (e.0 i, (e.1 ∙ is) i), e.1, e.2, e.3)
@@ -284,5 +337,25 @@ module _ {effort : Effort} {A : Type 0} {Pre : List Token → Type 0} {R C : For
   last-complete w x s rest pre c e stop =
       last_ends (p s) (Enough effort s) x (last_from s.before w) rest s.limited (last_is s.before w (sure w x.0 c.0) ∙ sym c.1) (ep.complete w x.0 s rest pre c.0 e stop)
 
+  -- where p ends before this
+  last_front : (w : List Token) (s m : State) (y : A) (rest : List Token) → Pre s.rest → p s ≡ Found y m → s.rest ≡ w ++ rest → m.rest ≡ rest → m.before ≡ last_from s.before w
+  last_front w s m y rest pre is e same =
+      let F = ep.found s y m pre is in
+      let front : F.front ≡ w = append_cancel_right F.front w rest (ap (λ (t : List Token). F.front ++ t) (sym same) ∙ sym F.parts ∙ e) in
+      F.ends ∙ ap (λ v. last_from s.before v) front
+
+  last_reaches : (o : Outcome A) (x : A × TokenLook) (rest : List Token) → ((y : A) (m : State) → o ≡ Found y m → m.rest ≡ rest → m.before ≡ x.1)
+      → Reaches o x.0 rest → Reaches (and_then o (λ y. last >>= λ look. pure (y, look))) x rest
+  last_reaches (Found y m) x rest is (inl less) = inl less
+  last_reaches (Found y m) x rest is (inr ends) = inr (ends.0, λ i. (ends.1 i, (is y m refl ends.0) i))
+  last_reaches (Failed (Unexpected n) m) x rest is r = r
+  last_reaches (Failed (TooDeep n) m) x rest is r = tt
+  last_reaches (Failed (TooManyNodes n) m) x rest is r = tt
+  last_reaches (Failed NoMemory m) x rest is r = tt
+
+  last-reaches : (w : List Token) (x : A × TokenLook) (s : State) (rest : List Token) → Pre s.rest → with_last C w x → s.rest ≡ w ++ rest → Clear rest → Reaches (both s) x rest
+  last-reaches w x s rest pre c e clear =
+      last_reaches (p s) x rest (λ y m is same. last_front w s m y rest pre is e same ∙ last_is s.before w (sure w x.0 c.0) ∙ sym c.1) (ep.reaches w x.0 s rest pre c.0 e clear)
+
   pub exact_last : Exact effort Pre (with_last R) (with_last C) g both
-  exact_last = record { found = last-found; refused = last-refused; complete = last-complete }
+  exact_last = record { found = last-found; refused = last-refused; begun = last-begun; complete = last-complete; reaches = last-reaches }

@@ -2,9 +2,11 @@
 use Rattle.std.proofs.Common.{◌≡◌, ℕ, List, [], ◌∷◌, ◌++◌, refl, sym, ap, subst, ◌∙◌}
 use Rattle.cr_syntax.specs.declared.token.Token.{Token}
 use Rattle.cr_grammar.specs.Forms.{Form, place_of, from_first}
-use Rattle.cr_exact.specs.declared.fault.ParseFault.TheVariants.{Unexpected}
-use Rattle.cr_exact.specs.Reader.{State, Found, Failed, Reader, Test, ◌>>=◌, place_at, here}
-use Rattle.cr_exact.specs.Exact.{at, head, last_from, Stops, Effort, Enough, Ends, Finds, Refuses, Exact, Any}
+use Rattle.cr_readers.specs.declared.fault.ParseFault.TheVariants.{Unexpected}
+use Rattle.cr_readers.specs.declared.fault.ParseFault.{ParseFault}
+use Rattle.cr_readers.specs.Reader.{State, Found, Failed, Reader, Test, ◌>>=◌, place_at, here}
+use Rattle.cr_exact.specs.Exact.{at, head, last_from, Stops, Effort, Enough, Ends, Finds, Refuses, Begins, Exact, Any}
+use Rattle.cr_exact.specs.Exact.{Reaches, Clear}
 use Rattle.cr_exact.proofs.Sequence.{head-place, same-head}
 
 pub first_place : (w rest : List Token) → (w ≡ [] → ⊥) → place_at (w ++ rest) ≡ place_of w
@@ -47,6 +49,18 @@ module _ {effort : Effort} {A : Type 0} (R C : ℕ → Form A) (g : Test) (p : �
         again = λ rest same. ap (λ v. p v (at s (F.front ++ rest))) (kept s s' F.front rest F.parts same) ∙ F.again rest same;
       }
 
+  here-begun : (s : State) (e : ParseFault) (s' : State) → now s ≡ Failed e s' → Begins (from_first R) s s'
+  here-begun s e s' failed =
+      let F = (ep (place_at s.rest)).begun s e s' tt failed in
+      record {
+        front = F.front;
+        parts = F.parts;
+        begins = λ real.
+            let B = F.begins real in
+            let there = moves _ (place_of (F.front ++ B.0)) (F.front ++ B.0) B.1 B.2 in
+            (B.0, there.0, there.1);
+      }
+
   here-complete : (w : List Token) (x : A) (s : State) (rest : List Token) → from_first C w x → s.rest ≡ w ++ rest → Stops g rest
       → Ends (Enough effort s) (now s) x (last_from s.before w) rest s.limited
   here-complete w x s rest c e stop =
@@ -54,9 +68,16 @@ module _ {effort : Effort} {A : Type 0} (R C : ℕ → Form A) (g : Test) (p : �
       subst (λ v. Ends (Enough effort s) (p v s) x (last_from s.before w) rest s.limited) (sym is)
       ((ep (place_of w)).complete w x s rest tt c e stop)
 
+  here-reaches : (w : List Token) (x : A) (s : State) (rest : List Token) → from_first C w x → s.rest ≡ w ++ rest → Clear rest → Reaches (now s) x rest
+  here-reaches w x s rest c e clear =
+      let is : place_at s.rest ≡ place_of w = ap place_at e ∙ first_place w rest (sure _ w x c) in
+      subst (λ v. Reaches (p v s) x rest) (sym is) ((ep (place_of w)).reaches w x s rest tt c e clear)
+
   pub exact_here : Exact effort Any (from_first R) (from_first C) g now
   exact_here = record {
     found = λ s x s' pre e. here-found s x s' e;
     refused = λ s n s' pre e. here-refused s n s' e;
+    begun = λ s d s' pre e. here-begun s d s' e;
     complete = λ w x s rest pre c e stop. here-complete w x s rest c e stop;
+    reaches = λ w x s rest pre c e clear. here-reaches w x s rest c e clear;
   }

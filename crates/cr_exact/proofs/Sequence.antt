@@ -6,10 +6,12 @@ use Rattle.cr_syntax.specs.declared.token.Token.{Token}
 use Rattle.cr_syntax.specs.Look.{look_of}
 use Rattle.cr_grammar.specs.Forms.{Form, nothing}
 use Rattle.cr_grammar.specs.Forms as f
-use Rattle.cr_exact.specs.declared.fault.ParseFault.{ParseFault}
-use Rattle.cr_exact.specs.declared.fault.ParseFault.TheVariants.{Unexpected}
-use Rattle.cr_exact.specs.Reader.{State, Outcome, Found, Failed, Reader, and_then, ◌>>=◌, pure, Test, passes, place_at, look_at}
-use Rattle.cr_exact.specs.Exact.{at, head, last_from, Stops, Effort, Enough, Ends, Finds, Refuses, Exact, Any}
+use Rattle.cr_readers.specs.declared.fault.ParseFault.{ParseFault}
+use Rattle.cr_readers.specs.declared.fault.ParseFault.TheVariants.{Unexpected, TooDeep, TooManyNodes, NoMemory}
+use Rattle.cr_readers.specs.Reader.{State, Outcome, Found, Failed, Reader, and_then, ◌>>=◌, pure, Test, passes, place_at, look_at}
+use Rattle.cr_exact.specs.Exact.{at, head, last_from, Stops, Effort, Enough, Ends, Finds, Refuses, Begins, Exact, Any}
+use Rattle.cr_exact.specs.Exact.{GoesBeyond, Reaches, Clear}
+use Rattle.std.specs.Prelude.{◌<◌}
 use Rattle.cr_exact.proofs.TokenTests.{Less, stops_less}
 
 -- ---- heads and lasts
@@ -70,10 +72,50 @@ ends_bind enough (Failed d m) f x y before between middle rest limited e go = e
 pub ends_less : {A : Type 0} (enough more : Type 0) (o : Outcome A) (x : A) (before : TokenLook) (rest : List Token) (limited : Bool)
     → (more → enough) → Ends enough o x before rest limited → Ends more o x before rest limited
 ends_less enough more (Found y m) x before rest limited h e = e
-ends_less enough more (Failed d m) x before rest limited h e = (e.0, λ is. e.1 (h is))
+ends_less enough more (Failed (Unexpected n) m) x before rest limited h e = e
+ends_less enough more (Failed (TooDeep n) m) x before rest limited h e = e
+ends_less enough more (Failed (TooManyNodes n) m) x before rest limited h e = e
+ends_less enough more (Failed NoMemory m) x before rest limited h e = λ is. e (h is)
 
 pub enough_behind : (effort : Effort) (s m : State) (a : List Token) → s.rest ≡ a ++ m.rest → m.limited ≡ s.limited → Enough effort s → Enough effort m
-enough_behind effort s m a e same h = (h.0, same ∙ h.1, omega (arith, h.2, ap length e, length-append a m.rest))
+enough_behind effort s m a e same h = (h.0, omega (arith, h.1, ap length e, length-append a m.rest))
+
+-- ---- tokens that begin a spelled list
+
+-- where none was read
+pub begins_here : {A : Type 0} (R : Form A) (s s' : State) → s.rest ≡ s'.rest → Begins R s s'
+begins_here R s s' same = record { front = []; parts = same; begins = λ some. absurd (some refl) }
+
+-- Behind what is spelled some read no more, and others go on.
+goes_on_by : {A : Type 0} (R : Form A) (a b : List Token) → ((more : List Token) × (x : A) × R (a ++ more) x) → ((b ≡ [] → ⊥) → (more : List Token) × (x : A) × R (a ++ (b ++ more)) x)
+    → (more : List Token) × (x : A) × R (a ++ (b ++ more)) x
+goes_on_by R a [] none some = none
+goes_on_by R a (t ∷ b) none some = some (λ e. cc)
+
+-- ---- nothing is read backwards
+
+pub part_shorter : (u front v rest : List Token) → u ≡ front ++ v → length u < length rest → length v < length rest
+part_shorter u front v rest parts less = omega (arith, less, ap length parts, length-append front v)
+
+pub beyond_reaches : {A : Type 0} (o : Outcome A) (x : A) (rest : List Token) → GoesBeyond o rest → Reaches o x rest
+beyond_reaches (Found y m) x rest less = inl less
+beyond_reaches (Failed (Unexpected n) m) x rest less = less
+beyond_reaches (Failed (TooDeep n) m) x rest less = tt
+beyond_reaches (Failed (TooManyNodes n) m) x rest less = tt
+beyond_reaches (Failed NoMemory m) x rest less = tt
+
+-- From a place beyond this it goes on beyond this.
+pub record Advances {A : Type 0} (p : Reader A) : Type 0 where
+  pub on : (s : State) (rest : List Token) → length s.rest < length rest → GoesBeyond (p s) rest
+
+pub never_back : {effort : Effort} {A : Type 0} {R C : Form A} {g : Test} {p : Reader A} → Exact effort Any R C g p → Advances p
+never_back {A = A} {p = p} ep = record { on = λ s rest less. go s rest less (p s) refl } where
+  go : (s : State) (rest : List Token) → length s.rest < length rest → (o : Outcome A) → p s ≡ o → GoesBeyond o rest
+  go s rest less (Found x s') e = let F = ep.found s x s' tt e in part_shorter s.rest F.front s'.rest rest F.parts less
+  go s rest less (Failed (Unexpected n) s') e = let F = ep.begun s (Unexpected n) s' tt e in part_shorter s.rest F.front s'.rest rest F.parts less
+  go s rest less (Failed (TooDeep n) s') e = tt
+  go s rest less (Failed (TooManyNodes n) s') e = tt
+  go s rest less (Failed NoMemory s') e = tt
 
 -- ---- one after the other
 
@@ -134,6 +176,33 @@ module _ (whole first second : Effort) {A B : Type 0} (Pre : List Token → Type
             }
       ]
 
+  bind-begun : (s : State) (e : ParseFault) (s'' : State) → Pre s.rest → (p >>= q) s ≡ Failed e s'' → Begins (f.◌>>=◌ R S) s s''
+  bind-begun s e s'' pre failed =
+      elim (bind_refused (p s) q e s'' failed) [
+        | inl b ↦
+            let P = ep.begun s e s'' pre b in
+            record {
+              front = P.front;
+              parts = P.parts;
+              begins = λ real.
+                  let B = P.begins real in
+                  let w = some B.1 in
+                  (B.0 ++ w.0, w.1, (P.front ++ B.0, w.0, B.1, sym (append_assoc P.front B.0 w.0), B.2, w.2));
+            }
+        | inr b ↦
+            let P = ep.found s b.0 b.1 pre b.2 in
+            let Q = (eq b.0).begun b.1 e s'' tt b.3 in
+            record {
+              front = P.front ++ Q.front;
+              parts = P.parts ∙ ap (λ (t : List Token). P.front ++ t) Q.parts ∙ sym (append_assoc P.front Q.front s''.rest);
+              begins = λ real.
+                  let w = some b.0 in
+                  let B = goes_on_by (f.◌>>=◌ R S) P.front Q.front (w.0, w.1, (P.front, w.0, b.0, refl, P.spelled, w.2))
+                  (λ more. let M = Q.begins more in (M.0, M.1, (P.front, Q.front ++ M.0, b.0, refl, P.spelled, M.2))) in
+                  (B.0, B.1, subst (λ (t : List Token). f.◌>>=◌ R S t B.1) (sym (append_assoc P.front Q.front B.0)) B.2);
+            }
+      ]
+
   bind-complete : (w : List Token) (y : B) (s : State) (rest : List Token) → Pre s.rest → f.◌>>=◌ C D w y → s.rest ≡ w ++ rest → Stops h rest
       → Ends (Enough whole s) ((p >>= q) s) y (last_from s.before w) rest s.limited
   bind-complete w y s rest pre c e stop =
@@ -149,8 +218,35 @@ module _ (whole first second : Effort) {A B : Type 0} (Pre : List Token → Type
       subst (λ v. Ends (Enough whole s) (q c.2 m) y v rest s.limited) last
       (subst (λ v. Ends (Enough whole s) (q c.2 m) y (last_from m.before c.1) rest v) limited less))
 
+  bind-first : (o : Outcome A) (x : A) (y : B) (rest : List Token) → D x [] y → Clear rest → Reaches o x rest → Reaches (and_then o q) y rest
+  bind-first (Found z m) x y rest d clear (inl less) = beyond_reaches (q z m) y rest ((never_back (eq z)).on m rest less)
+  bind-first (Found z m) x y rest d clear (inr is) = subst (λ v. Reaches (q v m) y rest) (sym is.1) ((eq x).reaches [] y m rest tt d is.0 clear)
+  bind-first (Failed (Unexpected n) m) x y rest d clear r = r
+  bind-first (Failed (TooDeep n) m) x y rest d clear r = tt
+  bind-first (Failed (TooManyNodes n) m) x y rest d clear r = tt
+  bind-first (Failed NoMemory m) x y rest d clear r = tt
+
+  bind-second : (o : Outcome A) (x : A) (b : List Token) (y : B) (enough : Type 0) (before : TokenLook) (rest : List Token) (limited : Bool)
+      → D x b y → Clear rest → Ends enough o x before (b ++ rest) limited → Reaches (and_then o q) y rest
+  bind-second (Found z m) x b y enough before rest limited d clear ends = subst (λ v. Reaches (q v m) y rest) (sym ends.0) ((eq x).reaches b y m rest tt d ends.2 clear)
+  bind-second (Failed (Unexpected n) m) x b y enough before rest limited d clear ends = absurd ends
+  bind-second (Failed (TooDeep n) m) x b y enough before rest limited d clear ends = tt
+  bind-second (Failed (TooManyNodes n) m) x b y enough before rest limited d clear ends = tt
+  bind-second (Failed NoMemory m) x b y enough before rest limited d clear ends = tt
+
+  -- Where something of the second is left the first ends before it; where nothing is, the first alone may go on.
+  bind-parts : (a b : List Token) (x : A) (y : B) (s : State) (rest : List Token) → Pre s.rest → C a x → D x b y → s.rest ≡ a ++ (b ++ rest) → Clear rest
+      → Reaches ((p >>= q) s) y rest
+  bind-parts a [] x y s rest pre c d e clear = bind-first (p s) x y rest d clear (ep.reaches a x s rest pre c e clear)
+  bind-parts a (t ∷ b) x y s rest pre c d e clear =
+      bind-second (p s) x (t ∷ b) y _ _ rest _ d clear (ep.complete a x s (t ∷ b ++ rest) pre c e (follows x (t ∷ b) y [] d refl))
+
+  bind-reaches : (w : List Token) (y : B) (s : State) (rest : List Token) → Pre s.rest → f.◌>>=◌ C D w y → s.rest ≡ w ++ rest → Clear rest → Reaches ((p >>= q) s) y rest
+  bind-reaches w y s rest pre c e clear =
+      bind-parts c.0 c.1 c.2 y s rest pre c.4 c.5 (e ∙ ap (λ (t : List Token). t ++ rest) c.3 ∙ append_assoc c.0 c.1 rest) clear
+
   pub exact_bind_by : Exact whole Pre (f.◌>>=◌ R S) (f.◌>>=◌ C D) h (p >>= q)
-  exact_bind_by = record { found = bind-found; refused = bind-refused; complete = bind-complete }
+  exact_bind_by = record { found = bind-found; refused = bind-refused; begun = bind-begun; complete = bind-complete; reaches = bind-reaches }
 
 pub exact_bind : {effort : Effort} {A B : Type 0} {Pre : List Token → Type 0} {R C : Form A} {g : Test} {p : Reader A} (S D : A → Form B) (h : Test) (q : A → Reader B)
     → Exact effort Pre R C g p → ((x : A) → Exact effort Any (S x) (D x) h (q x))
@@ -174,7 +270,9 @@ exact_pure effort x g = record {
         again = λ rest same. rw (p.0, p.1) refl;
       };
   refused = λ s n s' pre e. absurd cc;
+  begun = λ s d s' pre e. absurd cc;
   complete = λ w y s rest pre c e stop. (sym c.1, ap (λ v. last_from s.before v) (sym c.0), e ∙ ap (λ (t : List Token). t ++ rest) c.0, refl);
+  reaches = λ w y s rest pre c e clear. inr (e ∙ ap (λ (t : List Token). t ++ rest) c.0, sym c.1);
 }
 
 -- ---- other conditions, other forms
@@ -183,7 +281,9 @@ pub weaken : {effort : Effort} {A : Type 0} {R C : Form A} {g : Test} {p : Reade
 weaken Pre e = record {
   found = λ s x s' pre. e.found s x s' tt;
   refused = λ s n s' pre. e.refused s n s' tt;
+  begun = λ s d s' pre. e.begun s d s' tt;
   complete = λ w x s rest pre. e.complete w x s rest tt;
+  reaches = λ w x s rest pre. e.reaches w x s rest tt;
 }
 
 -- spelled by more, and all that is spelled by less
@@ -192,7 +292,9 @@ pub exact_map : {effort : Effort} {A : Type 0} {Pre : List Token → Type 0} {R 
 exact_map S D out back e = record {
   found = λ s x s' pre is. let F = e.found s x s' pre is in record { front = F.front; parts = F.parts; ends = F.ends; spelled = out F.front x F.spelled; again = F.again };
   refused = λ s n s' pre is. let F = e.refused s n s' pre is in record { front = F.front; parts = F.parts; place = F.place; more = F.more; value = F.value; begins = out (F.front ++ F.more) F.value F.begins; again = F.again };
+  begun = λ s d s' pre is. let F = e.begun s d s' pre is in record { front = F.front; parts = F.parts; begins = λ real. let B = F.begins real in (B.0, B.1, out (F.front ++ B.0) B.1 B.2) };
   complete = λ w x s rest pre d. e.complete w x s rest pre (back w x d);
+  reaches = λ w x s rest pre d. e.reaches w x s rest pre (back w x d);
 }
 
 -- where it may go on by more
@@ -201,5 +303,7 @@ pub exact_goes : {effort : Effort} {A : Type 0} {Pre : List Token → Type 0} {R
 exact_goes {g = g} h less e = record {
   found = e.found;
   refused = e.refused;
+  begun = e.begun;
   complete = λ w x s rest pre c is stop. e.complete w x s rest pre c is (stops_less g h less rest stop);
+  reaches = e.reaches;
 }

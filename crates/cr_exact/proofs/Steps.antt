@@ -1,4 +1,5 @@
 -- Readers one after another: what is read exactly, that some list spells it, and by what it begins.
+use Rattle.std.proofs.lemmas.Bool.{both_ways}
 use Rattle.std.proofs.Common.{◌≡◌, ℕ, Bool, true, false, List, [], ◌∷◌, ◌++◌, inl, inr, refl, sym, ap, subst, ◌∙◌}
 use Rattle.std.specs.Prelude.{Option, Some, None, not}
 use Rattle.cr_syntax.specs.declared.look.TokenLook.{TokenLook}
@@ -8,17 +9,19 @@ use Rattle.cr_syntax.specs.declared.token.TokenKind.{TokenKind}
 use Rattle.cr_syntax.specs.Look.{look_of}
 use Rattle.cr_grammar.specs.Forms.{Form, nothing, word}
 use Rattle.cr_grammar.specs.Forms as f
-use Rattle.cr_exact.specs.Reader.{Reader, Test, passes, either, never, seen, tight_seen, expect, choose, many, grow, part, pure, ◌>>=◌, ◌>>◌, beside}
-use Rattle.cr_exact.specs.Lists.{optional, separators, listed}
+use Rattle.cr_readers.specs.Reader.{Reader, Test, passes, either, never, seen, tight_seen, expect, choose, many, grow, part, pure, ◌>>=◌, ◌>>◌, beside}
+use Rattle.cr_readers.specs.Lists.{optional, separators, listed}
 use Rattle.cr_exact.specs.Exact.{Stops, Effort, Exact, Any}
 use Rattle.cr_exact.proofs.TokenTests.{same_look_is, stops_right, At, seen_apart, never_stops, Not}
 use Rattle.cr_exact.proofs.Sequence.{exact_bind, exact_pure, exact_map, exact_goes, weaken}
 use Rattle.cr_exact.proofs.Tokens.{Passing, a_token, exact_word, exact_choose}
 use Rattle.cr_exact.proofs.Forms.{Spelled, spelled_seps, spelled_listed}
-use Rattle.cr_exact.proofs.Heads.{first_word, many_stop, heads_halts, front_of, first_at}
+use Rattle.cr_exact.proofs.Heads.{first_word, many_stop, heads_fails, front_of, first_at}
 use Rattle.cr_exact.proofs.Loops.{exact_many}
 use Rattle.cr_exact.proofs.Nodes.{silent_grow, exact_silent, exact_part, exact_beside}
 use Rattle.cr_exact.proofs.Lists.{exact_separators, exact_listed, exact_optional, tight_heads}
+use Rattle.cr_exact.proofs.Moves.{Moves}
+use Rattle.cr_exact.proofs.Sequence.{Advances, never_back}
 
 -- ---- the first token
 
@@ -106,6 +109,9 @@ starts_led {A = A} {C = C} a v g at one = record { first = λ w x rest c. go (w 
 abbrev pub Reads : Effort → {A : Type 0} → Form A → Form A → Test → Reader A → Type 0
 Reads effort R C g p = Exact effort Any R C g p × Spelled R
 
+pub reads_on : {effort : Effort} {A : Type 0} {R C : Form A} {g : Test} {p : Reader A} → Reads effort R C g p → Advances p
+reads_on e = never_back e.0
+
 pub reads_word : (effort : Effort) (kind : TokenKind) (g : Test) → Reads effort (word (look_of kind)) (word (look_of kind)) g (expect (look_of kind))
 reads_word effort kind g = (exact_word effort kind g, (a_token kind ∷ [], 0, (a_token kind, refl, (refl, refl))))
 
@@ -172,40 +178,42 @@ reads_as S D out back e = (exact_map S D out back e.0, (e.1.0, e.1.1, out e.1.0 
 pub reads_choose : {effort : Effort} {A : Type 0} {R C Q D : Form A} {g : Test} {p q : Reader A} (test : Test) → Starts true test C → Starts false test D
     → Reads effort R C g p → Reads effort Q D g q → Reads effort (f.◌<|>◌ R Q) (f.◌<|>◌ C D) g (choose test p q)
 reads_choose {effort = effort} {R = R} {C = C} {Q = Q} {D = D} {g = g} {p = p} {q = q} test heads others one other = (
-  exact_choose effort test R C Q D g p q (weaken _ one.0) (weaken _ other.0) heads.first (λ w x rest d stop. others.first w x rest d),
+  exact_choose effort test R C Q D g p q (weaken _ one.0) (weaken _ other.0) heads.first (λ w x rest d stop. others.first w x rest d)
+      (λ x s d clear is. absurd (both_ways _ (others.first [] x s.rest d) is)),
   (one.1.0, one.1.1, inl one.1.2),
 )
 
 -- a form or nothing
 pub reads_or_nothing : {effort : Effort} {A : Type 0} {R C : Form A} {p : Reader A} (test : Test) (y : A) → Starts true test C
-    → Exact effort (Passing test) R C never p → Reads effort (f.◌<|>◌ R (nothing y)) (f.◌<|>◌ C (nothing y)) test (choose test p (pure y))
-reads_or_nothing {effort = effort} {R = R} {C = C} {p = p} test y heads e = (
+    → Exact effort (Passing test) R C never p → Moves test p → Reads effort (f.◌<|>◌ R (nothing y)) (f.◌<|>◌ C (nothing y)) test (choose test p (pure y))
+reads_or_nothing {effort = effort} {R = R} {C = C} {p = p} test y heads e moves = (
   exact_choose effort test R C (nothing y) (nothing y) test p (pure y) (exact_goes test (λ a spaced stop. refl) e) (weaken _ (exact_pure effort y test))
       heads.first
-      (λ w x rest d stop. ap (λ (v : List Token). passes test (v ++ rest)) d.0 ∙ stop),
+      (λ w x rest d stop. ap (λ (v : List Token). passes test (v ++ rest)) d.0 ∙ stop)
+      (λ x s d clear is. moves.beyond s clear is),
   ([], y, inr (refl, refl)),
 )
 
-pub reads_optional : {effort : Effort} {A : Type 0} {R C : Form A} {g : Test} {p : Reader A} (test : Test) → Starts true test C → Reads effort R C g p
+pub reads_optional : {effort : Effort} {A : Type 0} {R C : Form A} {g : Test} {p : Reader A} (test : Test) → Starts true test C → Reads effort R C g p → Moves test p
     → Reads effort (f.maybe R) (f.maybe C) (either test g) (optional test p)
-reads_optional {effort = effort} {R = R} {C = C} {g = g} {p = p} test heads e = (exact_optional effort R C g p e.0 test heads.first, ([], None, refl))
+reads_optional {effort = effort} {R = R} {C = C} {g = g} {p = p} test heads e moves = (exact_optional effort R C g p e.0 test heads.first moves, ([], None, refl))
 
 -- ---- loops
 
-pub reads_many : {effort : Effort} {A : Type 0} {R C : Form A} {g : Test} {p : Reader A} (a : TokenLook) → Not a g → Starts true (seen a) C → Reads effort R C g p
+pub reads_many : {effort : Effort} {A : Type 0} {R C : Form A} {g : Test} {p : Reader A} (a : TokenLook) → Not a g → Starts true (seen a) C → Reads effort R C g p → Moves (seen a) p
     → Reads effort (f.many R) (f.many C) (either (seen a) g) (many (seen a) p effort.turns)
-reads_many {effort = effort} {R = R} {C = C} {g = g} {p = p} a not heads e =
-    (exact_many effort (seen a) g (seen_apart a g not) R C p (weaken _ e.0) heads.first, ([], [], refl))
+reads_many {effort = effort} {R = R} {C = C} {g = g} {p = p} a not heads e moves =
+    (exact_many effort (seen a) g (seen_apart a g not) R C p (weaken _ e.0) heads.first moves, ([], [], refl))
 
-pub reads_some : {effort : Effort} {A : Type 0} {R C : Form A} {g : Test} {p : Reader A} (a : TokenLook) → Not a g → Starts true (seen a) C → Reads effort R C g p
+pub reads_some : {effort : Effort} {A : Type 0} {R C : Form A} {g : Test} {p : Reader A} (a : TokenLook) → Not a g → Starts true (seen a) C → Reads effort R C g p → Moves (seen a) p
     → Reads effort (f.some R) (f.some C) (either (seen a) g) (p >>= λ x. many (seen a) p effort.turns >>= λ xs. pure (x ∷ xs))
-reads_some {effort = effort} {A = A} {R = R} {C = C} {g = g} {p = p} a not heads e = (
+reads_some {effort = effort} {A = A} {R = R} {C = C} {g = g} {p = p} a not heads e moves = (
   exact_bind (λ x. f.◌>>=◌ (f.many R) (λ xs. nothing (x ∷ xs))) (λ x. f.◌>>=◌ (f.many C) (λ xs. nothing (x ∷ xs))) (either (seen a) g)
       (λ x. many (seen a) p effort.turns >>= λ xs. pure (x ∷ xs)) e.0 (λ x. (rest_of x).0) (λ x. (rest_of x).1)
       (λ x b y rest d stop.
-      front_of false g b d.0 d.1 rest d.3 (many_stop g C (heads_halts (seen a) g C heads.first (seen_apart a g not)) d.0 d.2 (d.1 ++ rest) d.4
+      front_of false g b d.0 d.1 rest d.3 (many_stop g C (heads_fails (seen a) g C heads.first (seen_apart a g not)) d.0 d.2 (d.1 ++ rest) d.4
       (subst (λ (v : List Token). Stops g (v ++ rest)) (sym d.5.0) (stops_right (seen a) g rest stop)))),
   (let s = (rest_of e.1.1).1 in (e.1.0 ++ s.0, s.1, (e.1.0, s.0, e.1.1, refl, e.1.2, s.2))),
 ) where
   rest_of : (x : A) → Reads effort (f.◌>>=◌ (f.many R) (λ xs. nothing (x ∷ xs))) (f.◌>>=◌ (f.many C) (λ xs. nothing (x ∷ xs))) (either (seen a) g) (many (seen a) p effort.turns >>= λ xs. pure (x ∷ xs))
-  rest_of x = reads_map (λ xs. x ∷ xs) (reads_many a not heads e)
+  rest_of x = reads_map (λ xs. x ∷ xs) (reads_many a not heads e moves)

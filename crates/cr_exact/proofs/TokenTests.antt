@@ -1,31 +1,13 @@
 -- Tests of a token: which looks pass, and where what stops one test stops another.
-use Rattle.std.proofs.Common.{◌≡◌, Bool, true, false, cond, List, [], ◌∷◌, refl, sym, ap, subst, ◌∙◌, rules, ◌&&◌}
+use Rattle.std.proofs.Common.{◌≡◌, Bool, true, false, List, [], ◌∷◌, refl, sym, ap, subst, ◌∙◌, rules}
+use Rattle.std.proofs.lemmas.Bool.{both_ways, false_from_ne_true, or_from, or_parts}
 use denote.Enum.Bare.{same_true, true_same}
 use Rattle.cr_syntax.specs.contracts.look.TokenLook.{the_type}
 use Rattle.cr_syntax.specs.declared.look.TokenLook.{TokenLook}
 use Rattle.cr_syntax.specs.declared.token.Token.{Token}
 use Rattle.cr_syntax.specs.Look.{look_of}
-use Rattle.cr_exact.specs.Reader.{Test, passes, same_look, seen, tight_seen, either, never}
+use Rattle.cr_readers.specs.Reader.{Test, passes, same_look, seen, tight_seen, either, never}
 use Rattle.cr_exact.specs.Exact.{Stops}
-
-pub clash : {b : Bool} → b ≡ false → b ≡ true → ⊥
-clash f t = cc
-
-pub not_true : (b : Bool) → (b ≡ true → ⊥) → b ≡ false
-not_true true other = absurd (other refl)
-not_true false other = refl
-
-pub both_true : (x y : Bool) → x && y ≡ true → (x ≡ true) × (y ≡ true)
-both_true true y e = (refl, e)
-both_true false y e = absurd cc
-
-pub either_left : (b c : Bool) → cond b true c ≡ false → b ≡ false
-either_left true c e = absurd cc
-either_left false c e = refl
-
-pub either_right : (b c : Bool) → cond b true c ≡ false → c ≡ false
-either_right true c e = absurd cc
-either_right false c e = e
 
 pub same_look_is : (a b : TokenLook) → same_look a b ≡ true → a ≡ b
 unfolding same_look
@@ -36,7 +18,7 @@ unfolding same_look
 look_is_same a b e = true_same the_type a b e
 
 pub other_look : (a b : TokenLook) → (a ≡ b → ⊥) → same_look a b ≡ false
-other_look a b other = not_true (same_look a b) (λ e. other (same_look_is a b e))
+other_look a b other = false_from_ne_true (same_look a b) (λ e. other (same_look_is a b e))
 
 -- ---- what stops one test, and so another
 
@@ -52,13 +34,13 @@ pub less_never : (h : Test) → Less never h
 less_never h _ spaced e = refl
 
 pub less_either : (a b h : Test) → Less a h → Less b h → Less (either a b) h
-less_either a b h left right look spaced e = rw (left look spaced e) (right look spaced e)
+less_either a b h left right look spaced e = or_from (a look spaced) (b look spaced) (left look spaced e) (right look spaced e)
 
 pub less_left : (g a b : Test) → Less g a → Less g (either a b)
-less_left g a b less look spaced e = less look spaced (either_left _ _ e)
+less_left g a b less look spaced e = less look spaced ((or_parts _ _ e).0)
 
 pub less_right : (g a b : Test) → Less g b → Less g (either a b)
-less_right g a b less look spaced e = less look spaced (either_right _ _ e)
+less_right g a b less look spaced e = less look spaced ((or_parts _ _ e).1)
 
 pub never_stops : (ts : List Token) → Stops never ts
 never_stops [] = refl
@@ -95,14 +77,14 @@ not_tight_seen a b e false = e
 
 -- no token of this look passes one or the other
 pub not_either : (look : TokenLook) (a b : Test) → Not look a → Not look b → Not look (either a b)
-not_either look a b first second spaced = ap (λ c. cond c true (b look spaced)) (first spaced) ∙ second spaced
+not_either look a b first second spaced = or_from (a look spaced) (b look spaced) (first spaced) (second spaced)
 
 pub less_seen : (look : TokenLook) (h : Test) → Passes look h → Less (seen look) h
-less_seen look h is found spaced e = other_look found look (λ same. clash (ap (λ v. h v spaced) (sym same) ∙ e) (is spaced))
+less_seen look h is found spaced e = other_look found look (λ same. both_ways _ (ap (λ v. h v spaced) (sym same) ∙ e) (is spaced))
 
 pub less_tight_seen : (look : TokenLook) (h : Test) → h look false ≡ true → Less (tight_seen look) h
 less_tight_seen _ h is found true e = refl
-less_tight_seen look h is found false e = other_look found look (λ same. clash (ap (λ v. h v false) (sym same) ∙ e) is)
+less_tight_seen look h is found false e = other_look found look (λ same. both_ways _ (ap (λ v. h v false) (sym same) ∙ e) is)
 
 -- ---- two tests that no token passes both
 
@@ -115,7 +97,7 @@ apart_stops test g apart (t ∷ ts) is = apart (look_of t.kind) t.spaced is
 
 -- What passes the one test is no token of this look, for no such token passes it.
 pub apart_seen : (test : Test) (look : TokenLook) → Not look test → Apart test (seen look)
-apart_seen test look lets found spaced is = other_look found look (λ e. clash (lets spaced) (subst (λ v. test v spaced ≡ true) e is))
+apart_seen test look lets found spaced is = other_look found look (λ e. both_ways _ (lets spaced) (subst (λ v. test v spaced ≡ true) e is))
 
 -- Where a token of this look passes the one test, none passes the other.
 pub seen_apart : (look : TokenLook) (g : Test) → Not look g → Apart (seen look) g

@@ -1,17 +1,22 @@
 -- Readers of one token, and readers chosen by the next one.
 use Rattle.std.proofs.Common.{◌≡◌, ℕ, Bool, true, false, cond, List, [], ◌∷◌, ◌++◌, Option, Some, None, ◌⊎◌, inl, inr, refl, sym, ap, subst, ◌∙◌}
+use Rattle.std.proofs.lemmas.Bool.{both_ways}
 use Rattle.cr_syntax.specs.declared.look.TokenLook.{TokenLook}
 use Rattle.cr_syntax.specs.declared.look.TokenLook.TheVariants as l
 use Rattle.cr_syntax.specs.declared.token.Token.{Token}
 use Rattle.cr_syntax.specs.declared.token.TokenKind.{TokenKind}
 use Rattle.cr_syntax.specs.Look.{look_of}
-use Rattle.cr_grammar.specs.Forms.{Form, ◌<|>◌, one, word, Word, holding, where_true}
-use Rattle.cr_exact.specs.declared.fault.ParseFault.TheVariants.{Unexpected}
-use Rattle.cr_exact.specs.Reader.{State, Outcome, Found, Failed, Reader, Test, passes, place_at, look_at, next, tail, read_by, refuse, taken, take, place_if, word_read, worded, expect, holder, choose, only, by_look, allow}
-use Rattle.cr_exact.specs.Exact.{at, head, last_from, Stops, Effort, Enough, Ends, Finds, Refuses, Exact, Any}
+use Rattle.cr_grammar.specs.declared.word.Word.{Word}
+use Rattle.cr_grammar.specs.Forms.{Form, ◌<|>◌, one, word, holding, where_true}
+use Rattle.cr_readers.specs.declared.fault.ParseFault.TheVariants.{Unexpected}
+use Rattle.cr_readers.specs.declared.fault.ParseFault.{ParseFault}
+use Rattle.cr_readers.specs.Reader.{State, Outcome, Found, Failed, Reader, Test, passes, place_at, look_at, next, tail, read_by, refuse, taken, take, place_if, word_read, worded, expect, holder, choose, only, by_look, allow}
+use Rattle.cr_exact.specs.Exact.{at, head, last_from, Stops, Effort, Enough, Ends, Finds, Refuses, Begins, Exact, Any}
+use Rattle.cr_exact.specs.Exact.{GoesBeyond, Reaches, Clear}
+use Rattle.cr_exact.proofs.Sequence.{beyond_reaches}
 use Rattle.std.proofs.lemmas.List.{append-nil}
-use Rattle.cr_exact.proofs.TokenTests.{same_look_is, look_is_same, clash}
-use Rattle.cr_exact.proofs.Sequence.{head-passes, head-place, head-look, parts_found, exact_map, same-head, weaken}
+use Rattle.cr_exact.proofs.TokenTests.{same_look_is, look_is_same}
+use Rattle.cr_exact.proofs.Sequence.{head-passes, head-place, head-look, parts_found, exact_map, same-head, weaken, begins_here}
 
 -- ---- refusals
 
@@ -23,6 +28,10 @@ refusal_is s s' n e = (cc, cc)
 
 pub refusal_at : {A : Type 0} (s s' : State) (n : ℕ) (rest : List Token) → place_at rest ≡ n → s ≡ s' → let outcome : Outcome A = refuse (at s rest) in outcome ≡ Failed (Unexpected n) (at s' rest)
 refusal_at s s' n rest e same = rw (e, same) refl
+
+-- What refuses at once has read nothing.
+refuses_begun : {A : Type 0} (R : Form A) (s : State) (e : ParseFault) (s' : State) → let outcome : Outcome A = refuse s in outcome ≡ Failed e s' → Begins R s s'
+refuses_begun R s e s' is = begins_here R s s' (let same : s ≡ s' = cc in ap (λ (m : State). m.rest) same)
 
 -- What refuses at once, where something is spelled at all, refuses rightly.
 refuses_here : {A : Type 0} (R : Form A) (p : Reader A) (s s' : State) (n : ℕ) (w : List Token) (x : A) → R w x → (place_at s.rest ≡ n) × (s ≡ s')
@@ -70,6 +79,10 @@ module _ (effort : Effort) {A : Type 0} (P : Token → A → Type 0) (g : Test) 
       refuses_here (one P) (take f) s s' n (t0 ∷ []) x0 (t0, refl, some) (refusal_is s s' n e)
       (λ rest same. ap (λ v. taken v (at s rest)) (head-read f rest s.rest same ∙ is))
 
+  take-begun : (s : State) (o : Option A) (e : ParseFault) (s' : State) → taken o s ≡ Failed e s' → Begins (one P) s s'
+  take-begun s (Some y) e s' is = absurd cc
+  take-begun s None e s' is = refuses_begun (one P) s e s' is
+
   take-complete : (w : List Token) (x : A) (s : State) (rest : List Token) → one P w x → s.rest ≡ w ++ rest → Ends (Enough effort s) (take f s) x (last_from s.before w) rest s.limited
   unfolding next
   take-complete w x s rest c e =
@@ -78,11 +91,20 @@ module _ (effort : Effort) {A : Type 0} (P : Token → A → Type 0) (g : Test) 
       subst (λ o. Ends (Enough effort s) (taken o s) x (last_from s.before w) rest s.limited) (sym is)
       (refl, ap look_at whole ∙ ap (λ v. last_from s.before v) (sym c.1), ap tail whole, refl)
 
+  take-reaches : (w : List Token) (x : A) (s : State) (rest : List Token) → one P w x → s.rest ≡ w ++ rest → Reaches (take f s) x rest
+  unfolding next
+  take-reaches w x s rest c e =
+      let whole : s.rest ≡ c.0 ∷ rest = e ∙ ap (λ (r : List Token). r ++ rest) c.1 in
+      let is : read_by f s.rest ≡ Some x = ap (read_by f) whole ∙ back c.0 x c.2 in
+      subst (λ o. Reaches (taken o s) x rest) (sym is) (inr (ap tail whole, refl))
+
   pub exact_take : Exact effort Any (one P) (one P) g (take f)
   exact_take = record {
     found = λ s x s' pre e. take-found s.rest (read_by f s.rest) s x s' refl e;
     refused = λ s n s' pre e. take-refused s (read_by f s.rest) n s' refl e;
+    begun = λ s d s' pre e. take-begun s (read_by f s.rest) d s' e;
     complete = λ w x s rest pre c e stop. take-complete w x s rest c e;
+    reaches = λ w x s rest pre c e clear. take-reaches w x s rest c e;
   }
 
 -- ---- a word
@@ -142,10 +164,16 @@ pub chosen_ends : {A : Type 0} (b : Bool) (p q : Reader A) (s : State) (enough :
 chosen_ends true p q s enough x before rest limited u v = u refl
 chosen_ends false p q s enough x before rest limited u v = v refl
 
+pub chosen_reaches : {A : Type 0} (b : Bool) (p q : Reader A) (s : State) (x : A) (rest : List Token)
+    → (b ≡ true → Reaches (p s) x rest) → (b ≡ false → Reaches (q s) x rest) → Reaches (cond b p q s) x rest
+chosen_reaches true p q s x rest u v = u refl
+chosen_reaches false p q s x rest u v = v refl
+
 module _ (effort : Effort) {A : Type 0} (test : Test) (R C Q D : Form A) (g : Test) (p q : Reader A)
     (ep : Exact effort (Passing test) R C g p) (eq : Exact effort (Failing test) Q D g q)
     (heads : (w : List Token) (x : A) (rest : List Token) → C w x → passes test (w ++ rest) ≡ true)
-    (others : (w : List Token) (x : A) (rest : List Token) → D w x → Stops g rest → passes test (w ++ rest) ≡ false) where
+    (others : (w : List Token) (x : A) (rest : List Token) → D w x → Stops g rest → passes test (w ++ rest) ≡ false)
+    (empty : (x : A) (s : State) → D [] x → Clear s.rest → passes test s.rest ≡ true → GoesBeyond (p s) s.rest) where
   abbrev now : Reader A
   now = choose test p q
 
@@ -202,20 +230,45 @@ module _ (effort : Effort) {A : Type 0} (test : Test) (R C Q D : Form A) (g : Te
             }
       ]
 
+  choose-begun : (s : State) (e : ParseFault) (s' : State) → now s ≡ Failed e s' → Begins (R <|> Q) s s'
+  choose-begun s e s' failed =
+      elim (chosen (passes test s.rest) p q s (Failed e s') failed) [
+        | inl c ↦ let F = ep.begun s e s' c.0 c.1 in record { front = F.front; parts = F.parts; begins = λ real. let B = F.begins real in (B.0, B.1, inl B.2) }
+        | inr c ↦ let F = eq.begun s e s' c.0 c.1 in record { front = F.front; parts = F.parts; begins = λ real. let B = F.begins real in (B.0, B.1, inr B.2) }
+      ]
+
   choose-complete : (w : List Token) (x : A) (s : State) (rest : List Token) → (C <|> D) w x → s.rest ≡ w ++ rest → Stops g rest
       → Ends (Enough effort s) (now s) x (last_from s.before w) rest s.limited
   choose-complete w x s rest (inl c) e stop =
       let is : passes test s.rest ≡ true = ap (passes test) e ∙ heads w x rest c in
-      chosen_ends (passes test s.rest) p q s _ x _ rest _ (λ t. ep.complete w x s rest is c e stop) (λ f. absurd (clash f is))
+      chosen_ends (passes test s.rest) p q s _ x _ rest _ (λ t. ep.complete w x s rest is c e stop) (λ f. absurd (both_ways _ f is))
   choose-complete w x s rest (inr d) e stop =
       let is : passes test s.rest ≡ false = ap (passes test) e ∙ others w x rest d stop in
-      chosen_ends (passes test s.rest) p q s _ x _ rest _ (λ t. absurd (clash is t)) (λ f. eq.complete w x s rest is d e stop)
+      chosen_ends (passes test s.rest) p q s _ x _ rest _ (λ t. absurd (both_ways _ is t)) (λ f. eq.complete w x s rest is d e stop)
+
+  -- By nothing D may be spelled before any token; but where that passes the test, p reads it.
+  other-reaches : (w : List Token) (x : A) (s : State) (rest : List Token) → D w x → s.rest ≡ w ++ rest → Clear rest → Reaches (now s) x rest
+  other-reaches [] x s rest d e clear =
+      chosen_reaches (passes test s.rest) p q s x rest
+      (λ is. subst (λ (r : List Token). Reaches (p s) x r) e (beyond_reaches (p s) x s.rest (empty x s d (subst Clear (sym e) clear) is)))
+      (λ is. eq.reaches [] x s rest is d e clear)
+  other-reaches (t ∷ w) x s rest d e clear =
+      let is : passes test s.rest ≡ false = ap (passes test) e ∙ others (t ∷ w) x [] d refl in
+      chosen_reaches (passes test s.rest) p q s x rest (λ t. absurd (both_ways _ is t)) (λ f. eq.reaches (t ∷ w) x s rest is d e clear)
+
+  choose-reaches : (w : List Token) (x : A) (s : State) (rest : List Token) → (C <|> D) w x → s.rest ≡ w ++ rest → Clear rest → Reaches (now s) x rest
+  choose-reaches w x s rest (inl c) e clear =
+      let is : passes test s.rest ≡ true = ap (passes test) e ∙ heads w x rest c in
+      chosen_reaches (passes test s.rest) p q s x rest (λ t. ep.reaches w x s rest is c e clear) (λ f. absurd (both_ways _ f is))
+  choose-reaches w x s rest (inr d) e clear = other-reaches w x s rest d e clear
 
   pub exact_choose : Exact effort Any (R <|> Q) (C <|> D) g now
   exact_choose = record {
     found = λ s x s' pre e. choose-found s x s' e;
     refused = λ s n s' pre e. choose-refused s n s' e;
+    begun = λ s d s' pre e. choose-begun s d s' e;
     complete = λ w x s rest pre c e stop. choose-complete w x s rest c e stop;
+    reaches = λ w x s rest pre c e clear. choose-reaches w x s rest c e clear;
   }
 
 -- ---- by the look of the next token
@@ -275,6 +328,13 @@ module _ (effort : Effort) {A : Type 0} (by : TokenLook → Reader A) (R : Form 
             (λ rest same. ap (λ v. by v (at s rest)) (head-look rest s.rest same) ∙ ap (λ (q : Reader A). q (at s rest)) bad.0)
       ]
 
+  by-begun : (s : State) (e : ParseFault) (s' : State) → by_look by s ≡ Failed e s' → Begins R s s'
+  by-begun s e s' failed =
+      elim (branch (look_at s.rest)) [
+        | inl ex ↦ ex.begun s e s' refl failed
+        | inr bad ↦ refuses_begun R s e s' (sym (ap (λ (q : Reader A). q s) bad.0) ∙ failed)
+      ]
+
   by-complete : (w : List Token) (x : A) (s : State) (rest : List Token) → by_first C w x → s.rest ≡ w ++ rest → Stops g rest
       → Ends (Enough effort s) (by_look by s) x (last_from s.before w) rest s.limited
   by-complete w x s rest c e stop =
@@ -286,11 +346,23 @@ module _ (effort : Effort) {A : Type 0} (by : TokenLook → Reader A) (R : Form 
       ] in
       subst (λ v. Ends (Enough effort s) (by v s) x (last_from s.before w) rest s.limited) (sym is) go
 
+  by-reaches : (w : List Token) (x : A) (s : State) (rest : List Token) → by_first C w x → s.rest ≡ w ++ rest → Clear rest → Reaches (by_look by s) x rest
+  by-reaches w x s rest c e clear =
+      let led = c.1 in
+      let is : look_at s.rest ≡ c.0 = ap look_at (e ∙ ap (λ (r : List Token). r ++ rest) led.2) ∙ led.3 in
+      let go : Reaches (by c.0 s) x rest = elim (branch c.0) [
+        | inl ex ↦ ex.reaches w x s rest is c.2 e clear
+        | inr bad ↦ absurd (bad.1 w x led c.2)
+      ] in
+      subst (λ v. Reaches (by v s) x rest) (sym is) go
+
   pub exact_by : Exact effort Any R (by_first C) g (by_look by)
   exact_by = record {
     found = λ s x s' pre e. by-found s x s' e;
     refused = λ s n s' pre e. by-refused s n s' e;
+    begun = λ s d s' pre e. by-begun s d s' e;
     complete = λ w x s rest pre c e stop. by-complete w x s rest c e stop;
+    reaches = λ w x s rest pre c e clear. by-reaches w x s rest c e clear;
   }
 
 -- What is spelled, and is no empty list, begins with the token that comes.
@@ -305,7 +377,9 @@ pub exact_looks : {effort : Effort} {A : Type 0} {R C : Form A} {g : Test} {p : 
 exact_looks look D real back ep = record {
   found = λ s x s' pre e. ep.found s x s' tt e;
   refused = λ s n s' pre e. ep.refused s n s' tt e;
+  begun = λ s d s' pre e. ep.begun s d s' tt e;
   complete = λ w x s rest pre c e stop. ep.complete w x s rest tt (back w x (led_from look s.rest w rest pre e (real w x c)) c) e stop;
+  reaches = λ w x s rest pre c e clear. ep.reaches w x s rest tt (back w x (led_from look s.rest w rest pre e (real w x c)) c) e clear;
 }
 
 pub led_one : (a c : TokenLook) (w : List Token) → Led a w → Led c w → a ≡ c
@@ -320,7 +394,7 @@ pub never_begins : {effort : Effort} {A : Type 0} {R C : Form A} {g : Test} (p :
 never_begins {effort = effort} p ep found refuses w x c is =
     let s : State = record { before = l.Newline; rest = w; depth = 0; nodes = 0; height = 0; limited = false } in
     let ends = ep.complete w x s [] tt c (sym (append-nil w)) refl in
-    (subst (λ o. Ends (Enough effort s) o x (last_from l.Newline w) [] false) (refuses s is) ends).0
+    (subst (λ o. Ends (Enough effort s) o x (last_from l.Newline w) [] false) (refuses s is) ends)
 
 -- ---- where a condition holds that has nothing to do with the tokens
 
@@ -328,22 +402,24 @@ pub branch_where : {effort : Effort} {A : Type 0} (look : TokenLook) (c : Bool) 
     → (c ≡ true → Exact effort (Looks look) R C g p) → Branch effort look R (where_true c C) g (allow c p)
 branch_where _ true R C g p e =
     let ep = e refl in
-    inl (record { found = ep.found; refused = ep.refused; complete = λ w x s rest pre c. ep.complete w x s rest pre c.1 })
-branch_where _ false R C g p e = inr (refl, λ w x led c. clash refl c.0)
+    inl (record { found = ep.found; refused = ep.refused; begun = ep.begun; complete = λ w x s rest pre c. ep.complete w x s rest pre c.1; reaches = λ w x s rest pre c. ep.reaches w x s rest pre c.1 })
+branch_where _ false R C g p e = inr (refl, λ w x led c. both_ways _ refl c.0)
 
 -- What refuses at once is exact for a form, of which nothing need be found.
 pub exact_refuse : (effort : Effort) {A : Type 0} (R : Form A) (goes : Test) (w : List Token) (x : A) → R w x → Exact effort Any R (λ v y. ⊥) goes refuse
 exact_refuse effort {A = A} R goes w x some = record {
   found = λ s y s' pre e. absurd (not_found s y s' e);
   refused = λ s n s' pre e. refuses_here R refuse s s' n w x some (refusal_is {A = A} s s' n e) (λ rest same. refl);
+  begun = λ s d s' pre e. refuses_begun R s d s' e;
   complete = λ v y s rest pre c. absurd c;
+  reaches = λ v y s rest pre c. absurd c;
 }
 
 -- exact where a condition holds that has nothing to do with the tokens, and else it refuses
 pub exact_allow : (effort : Effort) {A : Type 0} (condition : Bool) (R C : Form A) (goes : Test) (p : Reader A) (w : List Token) (x : A) → R w x
     → (condition ≡ true → Exact effort Any R C goes p) → Exact effort Any R (where_true condition C) goes (allow condition p)
 exact_allow effort true R C goes p w x some ep = exact_map R (where_true true C) (λ v y c. c) (λ v y c. c.1) (ep refl)
-exact_allow effort false R C goes p w x some ep = exact_map R (where_true false C) (λ v y c. c) (λ v y c. clash refl c.0) (exact_refuse effort R goes w x some)
+exact_allow effort false R C goes p w x some ep = exact_map R (where_true false C) (λ v y c. c) (λ v y c. both_ways _ refl c.0) (exact_refuse effort R goes w x some)
 
 -- ---- only where the next token passes a test
 
@@ -351,7 +427,7 @@ pub exact_only : {effort : Effort} {A : Type 0} (test : Test) {R C : Form A} {g 
     → ((w : List Token) (x : A) (rest : List Token) → C w x → passes test (w ++ rest) ≡ true) → (w0 : List Token) (x0 : A) → R w0 x0 → Exact effort Any R C g (only test p)
 exact_only {effort = effort} {A = A} test {R = R} {C = C} {g = g} p ep heads w0 x0 some =
     exact_map R C either_way (λ w x c. inl c)
-    (exact_choose effort test R C R (λ w x. ⊥) g p refuse ep (weaken _ (exact_refuse effort R g w0 x0 some)) heads (λ w x rest d stop. absurd d)) where
+    (exact_choose effort test R C R (λ w x. ⊥) g p refuse ep (weaken _ (exact_refuse effort R g w0 x0 some)) heads (λ w x rest d stop. absurd d) (λ x s d clear is. absurd d)) where
       either_way : (w : List Token) (x : A) → (R <|> R) w x → R w x
       either_way w x (inl c) = c
       either_way w x (inr c) = c

@@ -1,18 +1,23 @@
 -- A command, or an operation: the reader looks at two tokens, since a spaced `-` begins an argument where the next is tight.
 use Rattle.std.proofs.Common.{◌≡◌, ℕ, Bool, true, false, ◌&&◌, ◌||◌, cond, List, [], ◌∷◌, ◌++◌, ◌⊎◌, inl, inr, refl, sym, ap, subst, ◌∙◌}
+use Rattle.std.proofs.lemmas.Bool.{and_left, both_ways, cases_Bool, false_from_ne_true}
 use Rattle.std.proofs.lemmas.List.{append-nil}
 use Rattle.std.specs.Prelude.{not}
 use Rattle.cr_syntax.specs.declared.look.TokenLook.{TokenLook}
 use Rattle.cr_syntax.specs.declared.token.Token.{Token}
+use Rattle.cr_syntax.specs.declared.look.TokenLook.TheVariants as l
 use Rattle.cr_syntax.specs.declared.token.TokenKind.TheVariants as k
 use Rattle.cr_syntax.specs.Look.{look_of}
 use Rattle.cr_grammar.specs.declared.tree.Tree.{Tree}
 use Rattle.cr_grammar.specs.Forms.{Form, ◌<|>◌, passing}
 use Rattle.cr_grammar.specs.Operators.{is_minus, begins_value, begins_argument}
-use Rattle.cr_exact.specs.declared.fault.ParseFault.TheVariants.{Unexpected}
-use Rattle.cr_exact.specs.Reader.{State, Outcome, Found, Failed, Reader, Test, look_at}
-use Rattle.cr_exact.specs.Exact.{at, head, last_from, Stops, Effort, Enough, Ends, Finds, Refuses, Exact, Any}
-use Rattle.cr_exact.proofs.TokenTests.{clash, not_true}
+use Rattle.cr_readers.specs.declared.fault.ParseFault.TheVariants.{Unexpected}
+use Rattle.cr_readers.specs.declared.fault.ParseFault.{ParseFault}
+use Rattle.cr_readers.specs.Reader.{State, Outcome, Found, Failed, Reader, Test, look_at}
+use Rattle.cr_exact.specs.Exact.{at, head, last_from, Stops, Effort, Enough, Ends, Finds, Refuses, Begins, Exact, Any}
+use Rattle.cr_exact.specs.Exact.{GoesBeyond, Reaches, Clear}
+use Rattle.cr_exact.proofs.Tokens.{chosen_reaches}
+use Rattle.cr_exact.proofs.Sequence.{beyond_reaches}
 use Rattle.cr_exact.proofs.Sequence.{head-look}
 use Rattle.cr_exact.proofs.Tokens.{a_token, some_one, chosen, chosen_ends}
 
@@ -22,18 +27,15 @@ Settled [] = ⊥
 Settled (t ∷ []) = is_minus (look_of t.kind) ≡ false
 Settled (t ∷ u ∷ ts) = Unit {0}
 
-pub and_false : (b c d : Bool) → b ≡ false → b && c && d ≡ false
-and_false b c d e = rw e refl
-
 pub settled_same : (w a : List Token) → Settled w → begins_argument (w ++ a) ≡ begins_argument w
 settled_same [] a is = absurd is
 settled_same (t ∷ []) [] is = refl
-settled_same (t ∷ []) (u ∷ a) is = ap (λ b. (t.spaced && begins_value (look_of t.kind)) || b) (and_false (is_minus (look_of t.kind)) t.spaced (not u.spaced) is)
+settled_same (t ∷ []) (u ∷ a) is = ap (λ b. (t.spaced && begins_value (look_of t.kind)) || b) (and_left (is_minus (look_of t.kind) && t.spaced) (not u.spaced) (and_left (is_minus (look_of t.kind)) t.spaced is))
 settled_same (t ∷ u ∷ ts) a is = refl
 
 -- a tight `nil`
 abbrev pub tight_nil : Token
-tight_nil = a_token k.Nil
+tight_nil = a_token (k.Plain l.Nil)
 
 -- a spaced one
 abbrev pub spaced_nil : Token
@@ -71,10 +73,6 @@ tells [] a b h free = head_tells a b h (free refl)
 tells (t ∷ []) a b h free = two_tell t a b h
 tells (t ∷ u ∷ front) a b h free = refl
 
-either_is : (b : Bool) → (b ≡ true) ⊎ (b ≡ false)
-either_is true = inl refl
-either_is false = inr refl
-
 not_spaced : (m n : Bool) → m && false && n ≡ false
 not_spaced true n = refl
 not_spaced false n = refl
@@ -89,9 +87,9 @@ unspaced t (u ∷ ts) e = rw e (not_spaced _ _)
 
 -- A `-` that begins an argument before some token begins one before a tight one.
 sign_of : (t : Token) (tail : List Token) → is_minus (look_of t.kind) ≡ true → begins_argument (t ∷ tail) ≡ true → begins_argument (t ∷ tight_nil ∷ []) ≡ true
-sign_of t tail minus is = elim (either_is t.spaced) [
+sign_of t tail minus is = elim (cases_Bool t.spaced) [
   | inl spaced ↦ rw (minus, spaced) (or_true _)
-  | inr tight ↦ absurd (clash (unspaced t tail tight) is)
+  | inr tight ↦ absurd (both_ways _ (unspaced t tail tight) is)
 ]
 
 -- A reader that would find a `-` and this mark refuses at no `-`, and finds nothing before one.
@@ -101,7 +99,7 @@ module _ (effort : Effort) (R C : Form Tree) (g : Test) (p : Reader Tree) (e : E
       → o ≡ Failed (Unexpected n) m → Ends enough o x before rest limited → ⊥
   refusal_ends o n m enough x before rest limited is ends =
       let whole : Ends enough (Failed (Unexpected n) m) x before rest limited = subst (λ v. Ends enough v x before rest limited) is ends in
-      whole.0
+      whole
 
   find_ends : (o : Outcome Tree) (y : Tree) (m : State) (t u : Token) (ts : List Token) (enough : Type 0) (x : Tree) (before : TokenLook) (limited : Bool)
       → o ≡ Found y m → m.rest ≡ t ∷ u ∷ ts → Ends enough o x before [] limited → ⊥
@@ -146,7 +144,8 @@ module _ (effort : Effort) (K KC Q QC : Form Tree) (g : Test) (p q : Reader Tree
     (qd_signed : (t : Token) → is_minus (look_of t.kind) ≡ true → (x : Tree) × QD (t ∷ spaced_nil ∷ []) x)
     (w0 : List Token) (x0 : Tree) (some : K w0 x0) (begins0 : begins_argument w0 ≡ true)
     (signed : (t : Token) → is_minus (look_of t.kind) ≡ true → (x : Tree) × K (t ∷ tight_nil ∷ []) x)
-    (closed : (rest : List Token) → Stops g rest → begins_argument rest ≡ false) where
+    (closed : (rest : List Token) → Stops g rest → begins_argument rest ≡ false)
+    (moves : (s : State) → begins_argument s.rest ≡ true → Clear s.rest → GoesBeyond (p s) s.rest) where
   abbrev now : Reader Tree
   now s = cond (begins_argument s.rest) p q s
 
@@ -156,7 +155,7 @@ module _ (effort : Effort) (K KC Q QC : Form Tree) (g : Test) (p q : Reader Tree
   same_test : (s s' : State) (front rest : List Token) → s.rest ≡ front ++ s'.rest → head rest ≡ head s'.rest → (front ≡ [] → is_minus (look_at s'.rest) ≡ true → ⊥)
       → begins_argument (front ++ rest) ≡ begins_argument s.rest
   same_test s s' front rest parts same never =
-      tells front rest s'.rest same (λ none. not_true (is_minus (look_at rest)) (λ minus. never none (sym (ap is_minus (head-look rest s'.rest same)) ∙ minus))) ∙ ap begins_argument (sym parts)
+      tells front rest s'.rest same (λ none. false_from_ne_true (is_minus (look_at rest)) (λ minus. never none (sym (ap is_minus (head-look rest s'.rest same)) ∙ minus))) ∙ ap begins_argument (sym parts)
 
   unless-found : (s : State) (x : Tree) (s' : State) → now s ≡ Found x s' → Finds (Both K Q) now s x s'
   unless-found s x s' e =
@@ -184,7 +183,7 @@ module _ (effort : Effort) (K KC Q QC : Form Tree) (g : Test) (p q : Reader Tree
   -- The tokens before a refusal begin a command.
   alive : (front tail more : List Token) (x : Tree) → begins_argument (front ++ tail) ≡ true → K (front ++ more) x → (v : List Token) × (y : Tree) × passing begins_argument K (front ++ v) y
   alive [] tail more x is k = (w0, x0, (begins0, some))
-  alive (t ∷ []) tail more x is k = elim (either_is (is_minus (look_of t.kind))) [
+  alive (t ∷ []) tail more x is k = elim (cases_Bool (is_minus (look_of t.kind))) [
     | inl minus ↦
         let y = signed t minus in
         (tight_nil ∷ [], y.0, (sign_of t tail minus is, y.1))
@@ -220,6 +219,24 @@ module _ (effort : Effort) (K KC Q QC : Form Tree) (g : Test) (p q : Reader Tree
             }
       ]
 
+  unless-begun : (s : State) (e : ParseFault) (s' : State) → now s ≡ Failed e s' → Begins (Both K Q) s s'
+  unless-begun s e s' failed =
+      elim (chosen (begins_argument s.rest) p q s (Failed e s') failed) [
+        | inl c ↦
+            let F = ek.begun s e s' tt c.1 in
+            record {
+              front = F.front;
+              parts = F.parts;
+              begins = λ real.
+                  let B = F.begins real in
+                  let A = alive F.front s'.rest B.0 B.1 (ap begins_argument (sym F.parts) ∙ c.0) B.2 in
+                  (A.0, A.1, inl A.2);
+            }
+        | inr c ↦
+            let F = eq.begun s e s' tt c.1 in
+            record { front = F.front; parts = F.parts; begins = λ real. let B = F.begins real in (B.0, B.1, inr B.2) }
+      ]
+
   no_argument : (w rest : List Token) (x : Tree) → QC w x → Stops g rest → begins_argument (w ++ rest) ≡ false
   no_argument w rest x c stop = elim (qc_settled w x c) [
     | inl none ↦ ap (λ (v : List Token). begins_argument (v ++ rest)) none ∙ closed rest stop
@@ -230,15 +247,34 @@ module _ (effort : Effort) (K KC Q QC : Form Tree) (g : Test) (p q : Reader Tree
       → Ends (Enough effort s) (now s) x (last_from s.before w) rest s.limited
   unless-complete w x s rest (inl c) e stop =
       let is : begins_argument s.rest ≡ true = ap begins_argument e ∙ settled_same w rest (kc_settled w x c.1) ∙ c.0 in
-      chosen_ends (begins_argument s.rest) p q s _ x _ rest _ (λ t. ek.complete w x s rest tt c.1 e stop) (λ f. absurd (clash f is))
+      chosen_ends (begins_argument s.rest) p q s _ x _ rest _ (λ t. ek.complete w x s rest tt c.1 e stop) (λ f. absurd (both_ways _ f is))
   unless-complete w x s rest (inr d) e stop =
       let is : begins_argument s.rest ≡ false = ap begins_argument e ∙ no_argument w rest x d stop in
-      chosen_ends (begins_argument s.rest) p q s _ x _ rest _ (λ t. absurd (clash is t)) (λ f. eq.complete w x s rest tt d e stop)
+      chosen_ends (begins_argument s.rest) p q s _ x _ rest _ (λ t. absurd (both_ways _ is t)) (λ f. eq.complete w x s rest tt d e stop)
+
+  other-reaches : (w : List Token) (x : Tree) (s : State) (rest : List Token) → QC w x → s.rest ≡ w ++ rest → Clear rest → (w ≡ []) ⊎ (Settled w × (begins_argument w ≡ false))
+      → Reaches (now s) x rest
+  other-reaches w x s rest d e clear (inl none) =
+      let whole : s.rest ≡ rest = e ∙ ap (λ (v : List Token). v ++ rest) none in
+      chosen_reaches (begins_argument s.rest) p q s x rest
+      (λ is. subst (λ (r : List Token). Reaches (p s) x r) whole (beyond_reaches (p s) x s.rest (moves s is (subst (λ (r : List Token). Clear r) (sym whole) clear))))
+      (λ is. eq.reaches w x s rest tt d e clear)
+  other-reaches w x s rest d e clear (inr settled) =
+      let is : begins_argument s.rest ≡ false = ap begins_argument e ∙ settled_same w rest settled.0 ∙ settled.1 in
+      chosen_reaches (begins_argument s.rest) p q s x rest (λ t. absurd (both_ways _ is t)) (λ f. eq.reaches w x s rest tt d e clear)
+
+  unless-reaches : (w : List Token) (x : Tree) (s : State) (rest : List Token) → Both KC QC w x → s.rest ≡ w ++ rest → Clear rest → Reaches (now s) x rest
+  unless-reaches w x s rest (inl c) e clear =
+      let is : begins_argument s.rest ≡ true = ap begins_argument e ∙ settled_same w rest (kc_settled w x c.1) ∙ c.0 in
+      chosen_reaches (begins_argument s.rest) p q s x rest (λ t. ek.reaches w x s rest tt c.1 e clear) (λ f. absurd (both_ways _ f is))
+  unless-reaches w x s rest (inr d) e clear = other-reaches w x s rest d e clear (qc_settled w x d)
 
   -- a command where an argument begins, else what Q spells
   pub exact_unless : Exact effort Any (Both K Q) (Both KC QC) g now
   exact_unless = record {
     found = λ s x s' pre e. unless-found s x s' e;
     refused = λ s n s' pre e. unless-refused s n s' e;
+    begun = λ s d s' pre e. unless-begun s d s' e;
     complete = λ w x s rest pre c e stop. unless-complete w x s rest c e stop;
+    reaches = λ w x s rest pre c e clear. unless-reaches w x s rest c e clear;
   }

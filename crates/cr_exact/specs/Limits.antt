@@ -1,12 +1,13 @@
 -- What a reader counts where nesting and nodes have a limit: the nodes so far, and the height of the node that was begun or
 -- read last.
-use Rattle.std.specs.Prelude.{◌≡◌, ℕ, ◌+◌, max, ◌<◌, ◌≤◌, true, List, [], ◌∷◌, ◌++◌, map, sum, ◌⊎◌, Option, Some, None}
+use Rattle.std.specs.Prelude.{◌≡◌, ℕ, ◌+◌, max, ◌<◌, ◌≤◌, Bool, true, false, not, List, [], ◌∷◌, ◌++◌, map, sum, ◌⊎◌, Option, Some, None}
 use Rattle.std.specs.List.{fold}
 use Rattle.cr_syntax.specs.declared.token.Token.{Token}
-use Rattle.cr_grammar.specs.Forms.{Form}
-use Rattle.cr_exact.specs.declared.fault.ParseFault.{ParseFault}
-use Rattle.cr_exact.specs.declared.fault.ParseFault.TheVariants.{TooDeep, TooManyNodes}
-use Rattle.cr_exact.specs.Reader.{State, Found, Failed, Reader, Test, max_nesting, max_nodes}
+use Rattle.cr_grammar.specs.Forms.{Form, last_look}
+use Rattle.cr_grammar.specs.Operators.{is_minus}
+use Rattle.cr_readers.specs.declared.fault.ParseFault.{ParseFault}
+use Rattle.cr_readers.specs.declared.fault.ParseFault.TheVariants.{TooDeep, TooManyNodes}
+use Rattle.cr_readers.specs.Reader.{State, Found, Failed, Reader, Test, max_nesting, max_nodes}
 use Rattle.cr_exact.specs.Exact.{at, head, Stops}
 
 -- the nodes so far, and the height of what was read last, where that is known
@@ -56,14 +57,23 @@ last_place [] = 0
 last_place (t ∷ []) = t.span.first
 last_place (t ∷ u ∷ ts) = last_place (u ∷ ts)
 
--- The place of the refusal is that of the last token that was read, and whatever is spelled where these tokens and the next stand is
--- beyond the limit.
+-- a tight token comes next
+abbrev pub tight_next : List Token → Bool
+tight_next [] = false
+tight_next (t ∷ ts) = not t.spaced
+
+-- Behind this front the one may stand for the other: where it ends with a `-`, a tight token comes in both or in neither.
+abbrev pub ComesAs : List Token → List Token → List Token → Type 0
+ComesAs front more rest = is_minus (last_look front) ≡ true → tight_next more ≡ tight_next rest
+
+-- The place of the refusal is that of the last token that was read, and whatever is spelled where these tokens stand is beyond the
+-- limit; where the last is a `-`, which may be a sign, whatever has a tight token behind it as here, or as here none.
 pub record Halts {A : Type 0} (C : Form A) (goes : Test) (to : A → Tally) (s : State) (e : ParseFault) (n : ℕ) (s' : State) : Type 0 where
   pub front : List Token
   pub some : front ≡ [] → ⊥
   pub parts : s.rest ≡ front ++ s'.rest
   pub place : n ≡ last_place front
-  pub beyond : (w rest more : List Token) (y : A) → C w y → w ++ rest ≡ front ++ more → head more ≡ head s'.rest → Stops goes rest → Beyond e s.depth (to y)
+  pub beyond : (w rest more : List Token) (y : A) → C w y → w ++ rest ≡ front ++ more → ComesAs front more s'.rest → Stops goes rest → Beyond e s.depth (to y)
 
 -- Behind tokens where `from` is counted, p counts `to x` with what it finds, never less, and halts only where all that C spells
 -- there is beyond a limit.

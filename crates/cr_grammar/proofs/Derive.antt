@@ -14,7 +14,8 @@ use Rattle.cr_grammar.specs.declared.within.Within.{Within}
 use Rattle.cr_grammar.specs.declared.operator.Assignment.{Assignment}
 use Rattle.cr_grammar.specs.Forms.{Form, nothing, ◌>>=◌, ◌>>◌, many, maybe, last_look, place_of, seps, word, listed, parenthesized, stmts}
 use Rattle.cr_grammar.specs.Operators as o
-use Rattle.cr_grammar.specs.Wanted.{Wanted, Or, Simple}
+use Rattle.cr_grammar.specs.declared.wanted.Wanted.{Wanted}
+use Rattle.cr_grammar.specs.declared.wanted.Wanted.TheVariants.{Or, Simple}
 use Rattle.cr_grammar.specs.Expressions.{doblock, operations, operator, operation, primary, postfix, unary, prod, sum, cmp, and, or}
 use Rattle.cr_grammar.specs.Grammar.{simple, local, assigned, modified}
 

@@ -12,11 +12,14 @@ use Rattle.cr_grammar.specs.declared.tree.Tree.{Tree}
 use Rattle.cr_grammar.specs.declared.within.Within.{Within}
 use Rattle.cr_grammar.specs.Forms.{Form, word}
 use Rattle.cr_grammar.specs.Operators as o
-use Rattle.cr_grammar.specs.Wanted.{Wanted, Written, Or, Stmt}
+use Rattle.cr_grammar.specs.declared.wanted.Wanted.{Wanted}
+use Rattle.cr_grammar.specs.declared.wanted.Wanted.TheVariants.{Written, Or, Stmt}
 use Rattle.cr_grammar.specs.Expressions as ex
 use Rattle.cr_grammar.specs.Grammar as g
 use Rattle.cr_grammar.specs.Grammar.{Spells_in, Spells}
 use Rattle.cr_grammar.specs.Laws.{first_is, begins_or, begins_stmt, begins_type, ValuesBegin, StatementsBegin, TypesBegin}
+use Rattle.cr_grammar.specs.declared.word.Path.{Path}
+use Rattle.cr_grammar.specs.declared.word.Atom.{Atom}
 
 pub front : (test : TokenLook → Bool) (a b : List Token) → first_is test a ≡ true → first_is test (a ++ b) ≡ true
 front test [] b e = absurd cc
@@ -38,11 +41,11 @@ led test look w a b at e r h = behind test w a b e (lone test look a r.0 r.1 r.2
 pub led_by : (test : TokenLook → Bool) (kind : TokenKind) (w a b : List Token) (t : Token) → w ≡ a ++ b → a ≡ t ∷ [] → t.kind ≡ kind → test (look_of kind) ≡ true → first_is test w ≡ true
 led_by test kind w a b t e e' is h = behind test w a b e (lone test (look_of kind) a t e' (ap look_of is) h)
 
-pub path_first : (test : TokenLook → Bool) → test l.Constant ≡ true → (w : List Token) (p : ex.Path) → ex.path w p → first_is test w ≡ true
+pub path_first : (test : TokenLook → Bool) → test l.Constant ≡ true → (w : List Token) (p : Path) → ex.path w p → first_is test w ≡ true
 path_first test h w p r = led_by test (k.Constant r.2.text) w r.0 r.1 r.4.0 r.3 r.4.1 r.4.2.0 h
 
 module _ (S : Wanted → Form Tree) where
-  pub atom_first : (test : TokenLook → Bool) → test l.Constant ≡ true → (with_arguments : Bool) (w : List Token) (a : ex.Atom) → ex.atom S with_arguments w a → first_is test w ≡ true
+  pub atom_first : (test : TokenLook → Bool) → test l.Constant ≡ true → (with_arguments : Bool) (w : List Token) (a : Atom) → ex.atom S with_arguments w a → first_is test w ≡ true
   atom_first test h with_arguments w a r = behind test w r.0 r.1 r.3 (path_first test h r.0 r.2 r.4)
 
   pub written_first : (with_arguments : Bool) (w : List Token) (x : Tree) → ex.written S with_arguments w x → first_is begins_type w ≡ true
@@ -78,15 +81,15 @@ module _ (S : Wanted → Form Tree) where
     looping_first w x (inl r) = led (begins_or within) l.While w r.0 r.1 r.2 r.3 r.4 refl
     looping_first w x (inr r) = led (begins_or within) l.Until w r.0 r.1 r.2 r.3 r.4 refl
 
-    field_first : (w : List Token) (x : Tree) → ex.field S within free w x → first_is (begins_or within) w ≡ true
-    field_first w x (is, r) = led_by (begins_or within) (k.InstanceVariable r.2.text) w r.0 r.1 r.4.0 r.3 r.4.1 r.4.2.0 is
+    variable_first : (w : List Token) (x : Tree) → ex.variable S within free w x → first_is (begins_or within) w ≡ true
+    variable_first w x (is, r) = led_by (begins_or within) (k.InstanceVariable r.2.text) w r.0 r.1 r.4.0 r.3 r.4.1 r.4.2.0 is
 
     pub primary_first : (w : List Token) (x : Tree) → ex.primary S within free w x → first_is (begins_or within) w ≡ true
     primary_first w x (inl r) = number_first w x r
     primary_first w x (inr (inl r)) = text_first w x r
     primary_first w x (inr (inr (inl r))) = constants_first w x r
     primary_first w x (inr (inr (inr (inl (is, r))))) = led (begins_or within) l.KeywordSelf w r.0 r.1 r.2 r.3 r.4 is
-    primary_first w x (inr (inr (inr (inr (inl r))))) = field_first w x r
+    primary_first w x (inr (inr (inr (inr (inl r))))) = variable_first w x r
     primary_first w x (inr (inr (inr (inr (inr (inl r)))))) = led_by (begins_or within) (k.Ident r.2.text) w r.0 r.1 r.4.0 r.3 r.4.1 r.4.2.0 refl
     primary_first w x (inr (inr (inr (inr (inr (inr (inl (is, r)))))))) = super_first is w x r
     primary_first w x (inr (inr (inr (inr (inr (inr (inr (inl r)))))))) = behind (begins_or within) w r.0 r.1 r.3 (atom_first (begins_or within) refl true r.0 r.2 r.4)
@@ -137,7 +140,7 @@ widen within [] e = e
 widen within (t ∷ ts) e = wider within (look_of t.kind) e
 
 module _ (S : Wanted → Form Tree) (within : Within) where
-  local_first : (w : List Token) (x : Tree) → (g.local S within w x ⊎ ex.field S within true w x) → first_is (begins_or within) w ≡ true
+  local_first : (w : List Token) (x : Tree) → (g.local S within w x ⊎ ex.variable S within true w x) → first_is (begins_or within) w ≡ true
   local_first w x (inl r) = led_by (begins_or within) (k.Ident r.2.text) w r.0 r.1 r.4.0 r.3 r.4.1 r.4.2.0 refl
   local_first w x (inr (is, r)) = led_by (begins_or within) (k.InstanceVariable r.2.text) w r.0 r.1 r.4.0 r.3 r.4.1 r.4.2.0 is
 

@@ -1,5 +1,6 @@
 -- What is spelled without parentheses and blocks passes nothing.
 use Rattle.std.proofs.Common.{◌≡◌, ℕ, zero, suc, Bool, true, false, not, ◌&&◌, ◌||◌, List, [], ◌∷◌, ◌++◌, ◌⊎◌, inl, inr, refl, sym, ap, subst, ◌∙◌, arith}
+use Rattle.std.proofs.lemmas.Bool.{and_parts}
 use Rattle.std.specs.Prelude.{ℤ, Option, Some, None}
 use Rattle.cr_syntax.specs.declared.look.TokenLook.{TokenLook}
 use Rattle.cr_syntax.specs.declared.look.TokenLook.TheVariants as l
@@ -12,7 +13,8 @@ use Rattle.cr_grammar.specs.declared.tree.Tree.TheVariants as tree
 use Rattle.cr_grammar.specs.declared.within.Within.{Within}
 use Rattle.cr_grammar.specs.Forms.{Form, ◌>>◌, word, many, comma, listed, maybe, repeated_of}
 use Rattle.cr_grammar.specs.Operators as o
-use Rattle.cr_grammar.specs.Wanted.{Wanted, Or}
+use Rattle.cr_grammar.specs.declared.wanted.Wanted.{Wanted}
+use Rattle.cr_grammar.specs.declared.wanted.Wanted.TheVariants.{Or}
 use Rattle.cr_grammar.specs.Expressions as ex
 use Rattle.cr_grammar.specs.Grammar.{Spells_in}
 use Rattle.cr_grammar.specs.Laws.{passes, any_passes, opens, none_opens, DoIsNotTheirs, NoCommandInside}
@@ -101,16 +103,11 @@ at_Select a b c = grind (arith, the_lemmas)
 at_Call : (a : ℕ) → (b : Option Tree) → (c : List ℕ) → passes (tree.Call a b c [] None) ≡ false
 at_Call a b c = grind (arith, the_lemmas)
 
-both_true : (b c : Bool) → (b && c) ≡ true → (b ≡ true) × (c ≡ true)
-both_true true true e = (refl, refl)
-both_true true false e = absurd cc
-both_true false c e = absurd cc
-
 -- what holds of a list of tokens holds of its parts
 parts : (free : Bool) (a b : List Token) → none_opens free (a ++ b) ≡ true → (none_opens free a ≡ true) × (none_opens free b ≡ true)
 parts free [] b e = (refl, e)
 parts free (t ∷ a) b e =
-    let split = both_true (not (opens free (look_of t.kind))) (none_opens free (a ++ b)) e in
+    let split = and_parts (not (opens free (look_of t.kind))) (none_opens free (a ++ b)) e in
     let rest = parts free a b split.1 in
     (ap (λ c. not (opens free (look_of t.kind)) && c) rest.0 ∙ (ap (λ c. c && true) split.0), rest.1)
 

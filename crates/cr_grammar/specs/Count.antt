@@ -10,9 +10,9 @@ own_nodes (Tree-F.Statements list) = 0
 own_nodes (Tree-F.Union atoms) = 0
 own_nodes (Tree-F.Block parameters body) = 0
 own_nodes (Tree-F.Pair key value) = 0
-own_nodes (Tree-F.Branch condition body) = 0
-own_nodes (Tree-F.In types body) = 0
-own_nodes (Tree-F.When target operation body) = 0
+own_nodes (Tree-F.Branch at condition body) = 0
+own_nodes (Tree-F.In at types body) = 0
+own_nodes (Tree-F.When at target operation body) = 0
 own_nodes other = 1
 
 abbrev held : Option ℕ → List ℕ
@@ -29,9 +29,9 @@ below (Tree-F.Statements list) = list
 below (Tree-F.Union atoms) = atoms
 below (Tree-F.Block parameters body) = parameters ++ body
 below (Tree-F.Pair key value) = key ∷ value ∷ []
-below (Tree-F.Branch condition body) = condition ∷ body
-below (Tree-F.In types body) = types ++ body
-below (Tree-F.When target operation body) = held target ++ operation ∷ body
+below (Tree-F.Branch at condition body) = condition ∷ body
+below (Tree-F.In at types body) = types ++ body
+below (Tree-F.When at target operation body) = held target ++ operation ∷ body
 below (Tree-F.Atom at path arguments) = arguments
 below (Tree-F.Parameter at instance name restriction) = held restriction
 below (Tree-F.Insertions at parts inserted) = inserted

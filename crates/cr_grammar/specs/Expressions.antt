@@ -9,22 +9,16 @@ use Rattle.cr_grammar.specs.declared.operator.Unary.TheVariants as prefix
 use Rattle.cr_grammar.specs.declared.tree.Tree.{Tree}
 use Rattle.cr_grammar.specs.declared.tree.Tree.TheVariants as tree
 use Rattle.cr_grammar.specs.declared.within.Within.{Within}
-use Rattle.cr_grammar.specs.Forms.{Form, nothing, ◌>>=◌, ◌>>◌, ◌<|>◌, where_true, passing, maybe, many, some, or_none, repeated, one, word, Word, holding, ident, constant, instance_variable, exactly, tight, with_last, seps, listed, parenthesized, stmts}
+use Rattle.cr_grammar.specs.declared.word.Path.{Path}
+use Rattle.cr_grammar.specs.declared.word.Atom.{Atom}
+use Rattle.cr_grammar.specs.declared.word.Word.{Word}
+use Rattle.cr_grammar.specs.Forms.{Form, nothing, ◌>>=◌, ◌>>◌, ◌<|>◌, where_true, passing, maybe, many, some, or_none, repeated, one, word, holding, ident, constant, instance_variable, exactly, tight, with_last, seps, listed, parenthesized, stmts}
 use Rattle.cr_grammar.specs.Operators as o
-use Rattle.cr_grammar.specs.Wanted.{Wanted, Written, When, Unary, Or, Simple, Stmt, in_loop, in_block, in_object}
+use Rattle.cr_grammar.specs.declared.wanted.Wanted.{Wanted}
+use Rattle.cr_grammar.specs.declared.wanted.Wanted.TheVariants.{Written, When, Unary, Or, Simple, Stmt}
+use Rattle.cr_grammar.specs.Wanted.{in_loop, in_block, in_object}
 
 -- ---- types
-
--- a path, and its place
-pub record Path : Type 0 where
-  pub at : ℕ
-  pub names : List (List ℕ)
-
--- an atom, and the place of the `?` behind it
-pub record Atom : Type 0 where
-  pub path : Path
-  pub arguments : List Tree
-  pub question : Option ℕ
 
 abbrev pub atom_tree : Atom → Tree
 atom_tree a = tree.Atom a.path.at a.path.names a.arguments
@@ -171,8 +165,8 @@ module _ (S : Wanted → Form Tree) where
     constants = leaf l.Nil (λ at. tree.Nil at) <|> leaf l.True (λ at. tree.True at) <|> leaf l.False (λ at. tree.False at)
 
     -- IVar
-    abbrev pub field : Form Tree
-    field = where_true (in_object within) (do name ← instance_variable; nothing (tree.InstanceVariable name.at name.text))
+    abbrev pub variable : Form Tree
+    variable = where_true (in_object within) (do name ← instance_variable; nothing (tree.InstanceVariable name.at name.text))
 
     -- Ident [ tight "(" [ args ] ")" ] [ block ]
     abbrev pub named : Form Tree
@@ -258,11 +252,11 @@ module _ (S : Wanted → Form Tree) where
 
     abbrev pub elsif : Form Tree
     elsif = do
-      word l.Elsif
+      at ← word l.Elsif
       condition ← S (Simple within)
       then
       body ← body within
-      nothing (tree.Branch condition body)
+      nothing (tree.Branch at condition body)
 
     -- if = "if" simple then stmts { "elsif" simple then stmts } [ "else" stmts ] "end"
     --    | "unless" simple then stmts [ "else" stmts ] "end"
@@ -296,11 +290,11 @@ module _ (S : Wanted → Form Tree) where
     -- in = "in" type { "," type } then stmts
     abbrev pub in_clause : Form Tree
     in_clause = do
-      word l.In
+      at ← word l.In
       types ← listed (S (Written false))
       then
       body ← body within
-      nothing (tree.In types body)
+      nothing (tree.In at types body)
 
     -- case = "case" simple sep { sep } in { in } "end"
     abbrev pub cases : Form Tree
@@ -332,7 +326,7 @@ module _ (S : Wanted → Form Tree) where
         <|> text
         <|> constants
         <|> where_true (in_object within) (leaf l.KeywordSelf (λ at. tree.KeywordSelf at))
-        <|> field
+        <|> variable
         <|> named
         <|> where_true within.method (yielded <|> above)
         <|> made
@@ -435,12 +429,12 @@ module _ (S : Wanted → Form Tree) where
     --      | "when" postfix "." "send" tight "(" or ")" then stmts
     abbrev pub when_of : Form (Option Tree) → Form Tree → Form Tree
     when_of into R = do
-      word l.When
+      at ← word l.When
       target ← into
       operation ← R
       then
       body ← body within
-      nothing (tree.When target operation body)
+      nothing (tree.When at target operation body)
 
     abbrev pub when : Form Tree
     when = when_of (maybe received_into) receive <|> when_of (nothing None) send

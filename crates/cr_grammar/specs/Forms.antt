@@ -6,6 +6,7 @@ use Rattle.cr_syntax.specs.declared.token.Token.{Token}
 use Rattle.cr_syntax.specs.declared.token.TokenKind.{TokenKind}
 use Rattle.cr_syntax.specs.declared.token.TokenKind.TheVariants as k
 use Rattle.cr_syntax.specs.Look.{look_of}
+use Rattle.cr_grammar.specs.declared.word.Word.{Word}
 
 abbrev pub Form : Type 0 → Type 1
 Form A = List Token → A → Type 0
@@ -85,11 +86,6 @@ one P w x = (t : Token) × (w ≡ t ∷ []) × P t x
 -- a token that looks so, with its place
 abbrev pub word : TokenLook → Form ℕ
 word look = one (λ t at. (look_of t.kind ≡ look) × (at ≡ t.span.first))
-
--- a text that a token holds, and its place
-pub record Word : Type 0 where
-  pub at : ℕ
-  pub text : List ℕ
 
 -- a token of such a kind, with the text that it holds
 abbrev pub holding : (List ℕ → TokenKind) → Form Word

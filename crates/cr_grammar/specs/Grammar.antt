@@ -10,8 +10,10 @@ use Rattle.cr_grammar.specs.declared.tree.Tree.TheVariants as tree
 use Rattle.cr_grammar.specs.declared.within.Within.{Within}
 use Rattle.cr_grammar.specs.Forms.{Form, nothing, ◌>>=◌, ◌>>◌, ◌<|>◌, where_true, passing, maybe, or_none, from_first, one, word, ident, constant, instance_variable, tight, listed, parenthesized, stmts}
 use Rattle.cr_grammar.specs.Operators as o
-use Rattle.cr_grammar.specs.Wanted.{Wanted, Written, When, Unary, Or, Simple, Stmt, Stmts, Program, in_method, top}
-use Rattle.cr_grammar.specs.Expressions.{written, body, doblock, field, indices, postfix, when, unary, or}
+use Rattle.cr_grammar.specs.declared.wanted.Wanted.{Wanted}
+use Rattle.cr_grammar.specs.declared.wanted.Wanted.TheVariants.{Written, When, Unary, Or, Simple, Stmt, Stmts, Program}
+use Rattle.cr_grammar.specs.Wanted.{in_method, top}
+use Rattle.cr_grammar.specs.Expressions.{written, body, doblock, variable, indices, postfix, when, unary, or}
 
 -- ---- statements
 
@@ -43,9 +45,9 @@ module _ (S : Wanted → Form Tree) (within : Within) where
     value ← S (Simple within)
     nothing (tree.Assign at x found.1 found.0 value))
 
-  -- target ( "=" | "+=" | "-=" | "*=" | "//=" | "%=" | "||=" ) simple; no `||=` on fields and elements
+  -- target ( "=" | "+=" | "-=" | "*=" | "//=" | "%=" | "||=" ) simple; no `||=` on a field `.x` or an element
   abbrev pub assignment : Form Tree
-  assignment = assigned (local <|> field S within free) o.any_assignment <|> assigned place o.field_assignment
+  assignment = assigned (local <|> variable S within free) o.any_assignment <|> assigned place o.field_assignment
 
   -- Arguments without parentheses: the first token is spaced and begins an argument, and a `do` is not theirs.
   abbrev pub bare_arguments : Form (List Tree)

@@ -9,7 +9,9 @@ use Rattle.cr_grammar.specs.declared.tree.Tree.TheVariants as tree
 use Rattle.cr_grammar.specs.declared.tree.Tree.TheOpen.{Tree-F}
 use Rattle.cr_grammar.specs.declared.within.Within.{Within}
 use Rattle.cr_grammar.specs.Operators.{begins_value}
-use Rattle.cr_grammar.specs.Wanted.{Wanted, Written, Or, Stmt, in_object}
+use Rattle.cr_grammar.specs.declared.wanted.Wanted.{Wanted}
+use Rattle.cr_grammar.specs.declared.wanted.Wanted.TheVariants.{Written, Or, Stmt}
+use Rattle.cr_grammar.specs.Wanted.{in_object}
 use Rattle.cr_grammar.specs.Expressions.{conditional, inside}
 use Rattle.cr_grammar.specs.Grammar.{Spells, Spells_in, bare_arguments}
 
@@ -19,7 +21,7 @@ first_is test [] = false
 first_is test (t ∷ ts) = test (look_of t.kind)
 
 -- The tokens that begin a value. `yield` and `super` stand in a method, `self` and an instance variable in one of a class
--- or module. Some values begin no argument without parentheses: `-`, `{`, `spawn` and the heads of compound forms.
+-- or module. Some values begin no argument without parentheses: `-`, `{`, `spawn` and the heads of compound constructs.
 abbrev pub begins_or : Within → TokenLook → Bool
 begins_or within l.Yield = within.method
 begins_or within l.Super = within.method

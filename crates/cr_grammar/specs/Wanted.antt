@@ -4,20 +4,6 @@ use Rattle.std.specs.Str.{bytes_eq}
 use Rattle.cr_grammar.specs.declared.within.Within.{Within}
 use Rattle.cr_grammar.specs.Operators as o
 
--- The constructs in which the grammar reaches itself, each with what surrounds it.
-pub data Wanted : Type 0 where
-  -- a type; the flag tells whether type arguments may stand in it
-  Written : Bool → Wanted
-  -- Here the flag tells whether a `do` is free; in the arguments of a command it belongs to the command.
-  When : Within → Bool → Wanted
-  Unary : Within → Bool → Wanted
-  Or : Within → Bool → Wanted
-  Simple : Within → Wanted
-  Stmt : Within → Wanted
-  -- whole lists of statements, and whole programs
-  Stmts : Within → Wanted
-  Program : Wanted
-
 -- ---- what surrounds the parts of a construct
 
 abbrev pub in_loop : Within → Within

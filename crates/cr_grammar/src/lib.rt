@@ -6,7 +6,9 @@ mod laws;
 mod node;
 mod operator;
 mod tree;
+mod wanted;
 mod within;
+mod word;
 
 pub use examples::{
     braces_behind_a_name_are_a_block, command_passes_a_sum, conditional_has_both_branches,
@@ -21,4 +23,6 @@ pub use laws::{
 pub use node::NodeId;
 pub use operator::{Assignment, Binary, Unary};
 pub use tree::Tree;
+pub use wanted::Wanted;
 pub use within::Within;
+pub use word::{Atom, Path, Word};

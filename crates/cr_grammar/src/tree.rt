@@ -4,7 +4,8 @@ use sqlite_items::{Boxed, Items};
 
 /// A construct of the source. `at` is the byte place that a refusal names: of a call, an operator or `new` its name's, of
 /// an index its `[`'s, of `nil?`, `is_a?` and `spawn` behind a receiver the word's, of any other construct its first
-/// token's. Parentheses, the modifier form of `if`, `then`, braces against `do` and an empty argument list leave no trace.
+/// token's. Lists, blocks and pairs have none. Parentheses, the modifier `if`, `then`, braces against `do` and an
+/// empty argument list leave no trace.
 #[derive(Drop)]
 pub enum Tree {
     // Lists and parts, which are no nodes.
@@ -28,16 +29,19 @@ pub enum Tree {
     },
     /// `elsif c` and its statements.
     Branch {
+        at: u32,
         condition: Boxed<Tree>,
         body: Items<Tree>,
     },
     /// `in A, B` and its statements.
     In {
+        at: u32,
         types: Items<Tree>,
         body: Items<Tree>,
     },
     /// `when x = c.receive` or `when c.send(v)`, and its statements. The operation is a call.
     When {
+        at: u32,
         target: Option<Boxed<Tree>>,
         operation: Boxed<Tree>,
         body: Items<Tree>,
