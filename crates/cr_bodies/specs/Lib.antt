@@ -1,0 +1,5 @@
+-- What contracts cite.
+pub mod Nests
+pub mod Items
+pub mod Atoms
+pub mod Clauses

@@ -1,0 +1,15 @@
+-- Tables of operators, by level.
+use Rattle.std.specs.Prelude.{Option}
+use Rattle.cr_syntax.specs.declared.look.TokenLook.{TokenLook}
+use Rattle.cr_grammar.specs.declared.operator.Binary.{Binary}
+use Rattle.cr_grammar.specs.Operators as o
+use Rattle.cr_words.specs.declared.operators.Level.{Level}
+use Rattle.cr_words.specs.declared.operators.Level.TheVariants as v
+
+abbrev pub table : Level → TokenLook → Option Binary
+table v.Or = o.or_operator
+table v.And = o.and_operator
+table v.Cmp = o.cmp_operator
+table v.Shift = o.shift_operator
+table v.Sum = o.sum_operator
+table v.Prod = o.prod_operator

@@ -1,0 +1,125 @@
+//! The tokens that hold a name, a number or a text.
+
+ghost use Rattle.std.specs.Prelude.{◌≡◌};
+ghost use Rattle.cr_readers.specs.Reader.{next, holder};
+ghost use Rattle.cr_readers.specs.Cursor.{state_of};
+ghost use Rattle.cr_readers.specs.Reads.{Reads};
+ghost use Rattle.cr_readers.specs.Words as spec;
+ghost use Rattle.cr_words.specs.Gives.{Gives, GivesAt};
+
+use cr_grammar::{Tree, Word};
+use cr_readers::{Cursor, ParseFault};
+use cr_syntax::{Token, TokenKind, TokenText};
+use std::alloc::Global;
+
+/// This text as a token holds it.
+///
+/// # Errors
+///
+/// `NoMemory` where memory runs out.
+pub fn spelled(alloc: Global, text: &str) -> Result<TokenText, ParseFault>
+    ensures { Gives text.now result }
+{
+    match TokenText::of(alloc, text) {
+        Ok(text) => Ok(text),
+        Err(_) => Err(ParseFault::NoMemory),
+    }
+}
+
+/// A copy of a text that a token holds.
+///
+/// # Errors
+///
+/// `NoMemory` where memory runs out.
+pub fn copy(alloc: Global, text: &TokenText) -> Result<TokenText, ParseFault>
+    ensures { Gives text.now result }
+{
+    spelled(alloc, text.as_str())
+}
+
+/// The next token is this one, which holds this text.
+fn word(
+    alloc: Global,
+    cursor: &mut Cursor<'_>,
+    token: &Token,
+    text: &TokenText,
+) -> Result<Word, ParseFault>
+    ensures { GivesAt (record { at = token.now.span.first; text = text.now }) (next (state_of cursor.old)) result (state_of cursor.new) }
+{
+    let text = copy(alloc, text)?;
+    cursor.take();
+    Ok(Word {
+        at: token.span.first,
+        text,
+    })
+}
+
+/// Reads a name, with its place.
+///
+/// # Errors
+///
+/// `Unexpected` where no name comes, and `NoMemory` where memory runs out.
+pub fn ident(alloc: Global, cursor: &mut Cursor<'_>) -> Result<Word, ParseFault>
+    ensures { Reads (spec.ident (state_of cursor.old)) result (state_of cursor.new) }
+{
+    if let Some(token) = cursor.token() {
+        if let TokenKind::Ident(text) = &token.kind {
+            return word(alloc, cursor, token, text);
+        }
+    }
+    Err(cursor.refuse())
+}
+
+/// Reads a name of a class or module, with its place.
+///
+/// # Errors
+///
+/// `Unexpected` where none comes, and `NoMemory` where memory runs out.
+pub fn constant(alloc: Global, cursor: &mut Cursor<'_>) -> Result<Word, ParseFault>
+    ensures { Reads (spec.constant (state_of cursor.old)) result (state_of cursor.new) }
+{
+    if let Some(token) = cursor.token() {
+        if let TokenKind::Constant(text) = &token.kind {
+            return word(alloc, cursor, token, text);
+        }
+    }
+    Err(cursor.refuse())
+}
+
+/// Reads a name of an instance variable, with its place.
+///
+/// # Errors
+///
+/// `Unexpected` where none comes, and `NoMemory` where memory runs out.
+pub fn instance_variable(alloc: Global, cursor: &mut Cursor<'_>) -> Result<Word, ParseFault>
+    ensures { Reads (spec.instance_variable (state_of cursor.old)) result (state_of cursor.new) }
+{
+    if let Some(token) = cursor.token() {
+        if let TokenKind::InstanceVariable(text) = &token.kind {
+            return word(alloc, cursor, token, text);
+        }
+    }
+    Err(cursor.refuse())
+}
+
+/// Reads a number, and tells its place too.
+///
+/// # Errors
+///
+/// `Unexpected` where no number comes.
+pub fn number(cursor: &mut Cursor<'_>) -> Result<(u32, Tree), ParseFault>
+    ensures { Reads (spec.number (state_of cursor.old)) result (state_of cursor.new) }
+{
+    if let Some(token) = cursor.token() {
+        let at = token.span.first;
+        if let TokenKind::Int32(value) = token.kind {
+            cursor.take();
+            return Ok((at, Tree::Int32 { at, value }));
+        }
+        if let TokenKind::Int64(value) = token.kind {
+            cursor.take();
+            return Ok((at, Tree::Int64 { at, value }));
+        }
+    }
+    Err(cursor.refuse())
+}
