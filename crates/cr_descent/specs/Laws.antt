@@ -3,6 +3,7 @@ use Rattle.std.specs.Prelude.{◌≡◌, ◌≤◌, ◌<◌, ℕ, suc, false, Li
 use Rattle.cr_syntax.specs.declared.token.Token.{Token}
 use Rattle.cr_grammar.specs.declared.tree.Tree.{Tree}
 use Rattle.cr_grammar.specs.declared.wanted.Wanted.{Wanted}
+use Rattle.cr_grammar.specs.Forms.{Form}
 use Rattle.cr_grammar.specs.Grammar.{Spells, Spells_in}
 use Rattle.cr_readers.specs.declared.fault.ParseFault.TheVariants.{Unexpected}
 use Rattle.cr_readers.specs.Reader.{State, Found, Failed, place_at}
@@ -33,18 +34,22 @@ Tells (Stmt within) rest = Clear rest
 Tells (Stmts within) rest = Clear rest
 Tells other rest = Unit {0}
 
--- The tokens before the place begin a spelled list, and with the token at it they begin none. They are none themselves, unless they are
--- statements before a token that tells nothing.
-pub record IsFirstUnexpected (wanted : Wanted) (list : List Token) (place : ℕ) : Type 0 where
+-- The tokens before the place begin a list that is spelled so, and with the token at it they begin none. They are none themselves, if what
+-- comes tells whether more is wanted.
+pub record IsUnexpected (spells : Form Tree) (tells : List Token → Type 0) (list : List Token) (place : ℕ) : Type 0 where
   pub front : List Token
   pub rest : List Token
   pub parts : list ≡ front ++ rest
   pub at_rest : place ≡ place_at rest
   pub more : List Token
   pub value : Tree
-  pub alive : Spells wanted (front ++ more) value
-  pub unfinished : Tells wanted rest → (x : Tree) → Spells wanted front x → ⊥
-  pub dead : (other : List Token) (x : Tree) → head other ≡ head rest → Spells wanted (front ++ other) x → ⊥
+  pub alive : spells (front ++ more) value
+  pub unfinished : tells rest → (x : Tree) → spells front x → ⊥
+  pub dead : (other : List Token) (x : Tree) → head other ≡ head rest → spells (front ++ other) x → ⊥
+
+-- It is the first token with which no list of the construct begins.
+abbrev pub IsFirstUnexpected : Wanted → List Token → ℕ → Type 0
+IsFirstUnexpected wanted list place = IsUnexpected (Spells wanted) (Tells wanted) list place
 
 -- An unexpected token is the first with which no spelled list begins.
 abbrev pub FaultsAreFirst : Type 0
