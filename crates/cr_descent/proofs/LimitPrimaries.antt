@@ -29,7 +29,6 @@ use Rattle.cr_readers.specs.Goes.{goes_primary, goes_stmt}
 use Rattle.cr_readers.specs.declared.operand.Operand.{Operand}
 use Rattle.cr_readers.specs.declared.operand.Operand.TheVariants.{Variable, Whole}
 use Rattle.cr_readers.specs.Operand.{whole, named, yielded, above}
-use Rattle.cr_readers.specs.Bodies as bodies
 use Rattle.cr_readers.specs.Primaries as primaries
 use Rattle.cr_exact.proofs.TokenTests.{look_apart, less_never, Less}
 use Rattle.cr_exact.proofs.Tokens.{Looks, Led, exact_word}

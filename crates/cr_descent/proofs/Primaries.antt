@@ -26,7 +26,6 @@ use Rattle.cr_readers.specs.Goes.{goes_primary, goes_stmt}
 use Rattle.cr_readers.specs.declared.operand.Operand.{Operand}
 use Rattle.cr_readers.specs.declared.operand.Operand.TheVariants.{Variable, Whole}
 use Rattle.cr_readers.specs.Operand.{named, yielded, above}
-use Rattle.cr_readers.specs.Bodies as bodies
 use Rattle.cr_readers.specs.Primaries as primaries
 use Rattle.cr_exact.proofs.TokenTests.{Less, less_never}
 use Rattle.cr_exact.proofs.Sequence.{exact_bind, exact_pure, exact_map, weaken}
