@@ -25,7 +25,7 @@ use Rattle.cr_descent.specs.Laws.{Tells}
 use Rattle.cr_descent.proofs.Knot as knot
 
 -- before all tokens, without limits
-abbrev begin : List Token → State
+abbrev pub begin : List Token → State
 begin w = record { before = l.Newline; rest = w; depth = 0; nodes = 0; height = 0; limited = false }
 
 -- Where there is enough to go on, and no limit, nothing stops a reader.
@@ -40,7 +40,7 @@ same_end : (o : Outcome Tree) (x y : Tree) (one other : Type 0) (before after : 
 same_end (Found z m) x y one other before after rest limited e f free is = sym e.0 ∙ f.0
 same_end (Failed d m) x y one other before after rest limited e f free is = absurd (no_stop d one limited free is e)
 
-found_end : (o : Outcome Tree) (x : Tree) (enough : Type 0) (before : TokenLook) (rest : List Token) (limited : Bool)
+pub found_end : (o : Outcome Tree) (x : Tree) (enough : Type 0) (before : TokenLook) (rest : List Token) (limited : Bool)
     → Ends enough o x before rest limited → limited ≡ false → enough → (m : State) × (o ≡ Found x m) × (m.rest ≡ rest)
 found_end (Found z m) x enough before rest limited e free is = (m, ap (λ v. Found v m) e.0, e.2)
 found_end (Failed d m) x enough before rest limited e free is = absurd (no_stop d enough limited free is e)
@@ -51,14 +51,14 @@ refused_end o n m x enough before rest limited is e =
     let whole : Ends enough (Failed (Unexpected n) m) x before rest limited = subst (λ v. Ends enough v x before rest limited) is e in
     whole
 
-short_end : (o : Outcome Tree) (y x : Tree) (m : State) (t : Token) (u : List Token) (enough : Type 0) (before : TokenLook) (limited : Bool)
+pub short_end : (o : Outcome Tree) (y x : Tree) (m : State) (t : Token) (u : List Token) (enough : Type 0) (before : TokenLook) (limited : Bool)
     → o ≡ Found y m → m.rest ≡ t ∷ u → Ends enough o x before [] limited → ⊥
 short_end o y x m t u enough before limited is rest e =
     let whole : Ends enough (Found y m) x before [] limited = subst (λ v. Ends enough v x before [] limited) is e in
     let none : t ∷ u ≡ [] = sym rest ∙ whole.2 in
     cc
 
-all_of : (wanted : Wanted) (turns n m : ℕ) (w : List Token) (x : Tree) (s : State) → Spells_in m wanted w x → s.rest ≡ w
+pub all_of : (wanted : Wanted) (turns n m : ℕ) (w : List Token) (x : Tree) (s : State) → Spells_in m wanted w x → s.rest ≡ w
     → Ends (Enough (effort_of turns n m) s) (read turns n wanted s) x (last_from s.before w) [] s.limited
 all_of wanted turns n m w x s c e = (knot.exact_read turns n m wanted).complete w x s [] tt c (e ∙ sym (append-nil w)) refl
 

@@ -42,4 +42,5 @@ pub mod LimitKnot
 pub mod LimitDeclarations
 pub mod Computed
 pub mod Programs
+pub mod WholeBodies
 pub mod Answered

@@ -209,7 +209,7 @@ within_is_found turns n m v w rest x s c is stop within =
     let H = (counts_read turns n m v s.nodes s.height).stopped s e place s' tt within.before failed limit in
     not_beyond e v s x within (H.beyond w rest s'.rest x c (sym is ∙ H.parts) (λ minus. refl) stop))
 
-found_if : (o : Outcome Tree) (x : Tree) (enough : Type 0) (rest : List Token) → IsFoundIf enough o x rest → enough → (s' : State) × (o ≡ Found x s') × (s'.rest ≡ rest)
+pub found_if : (o : Outcome Tree) (x : Tree) (enough : Type 0) (rest : List Token) → IsFoundIf enough o x rest → enough → (s' : State) × (o ≡ Found x s') × (s'.rest ≡ rest)
 found_if (Found y m) x enough rest is en = (m, ap (λ v. Found v m) is.0, is.1)
 found_if (Failed e m) x enough rest is en = absurd (is.1 en)
 

@@ -1,19 +1,21 @@
 -- A program is the whole of a list that ends once, and what is counted at the start is the tree's own.
-use Rattle.std.proofs.Common.{◌≡◌, ◌≢◌, ℕ, zero, suc, append_assoc, ◌+◌, ◌<◌, ◌≤◌, max, List, [], ◌∷◌, ◌++◌, All, Ok, Err, Result, refl, sym, ap, subst, ◌∙◌, arith}
+use Rattle.std.proofs.Common.{◌≡◌, ◌≢◌, ℕ, zero, suc, append_assoc, ◌+◌, max, List, [], ◌∷◌, ◌++◌, All, Ok, Err, Result, refl, sym, ap, subst, ◌∙◌, arith}
 use Rattle.cr_syntax.specs.declared.look.TokenLook.TheVariants as l
 use Rattle.cr_syntax.specs.declared.token.Token.{Token}
 use Rattle.cr_syntax.specs.Look.{look_of}
 use Rattle.cr_grammar.specs.Count.{nodes, nesting}
 use Rattle.cr_grammar.specs.declared.tree.Tree.{Tree}
+use Rattle.cr_grammar.specs.declared.wanted.Wanted.{Wanted}
 use Rattle.cr_grammar.specs.declared.wanted.Wanted.TheVariants.{Program}
 use Rattle.cr_grammar.specs.Grammar.{Spells, Spells_in}
 use Rattle.cr_readers.specs.declared.fault.ParseFault.{ParseFault}
 use Rattle.cr_readers.specs.declared.fault.ParseFault.TheVariants.{Unexpected, TooDeep, TooManyNodes, NoMemory}
 use Rattle.cr_readers.specs.Cursor.{start_of}
+use Rattle.cr_readers.specs.Descent.{read}
 use Rattle.cr_readers.specs.Reader.{State, max_nesting, max_nodes, tail, look_at}
 use Rattle.cr_descent.specs.Answers.{Answers, ReadersAnswer}
-use Rattle.cr_descent.specs.LimitLaws.{HasNoWay}
-use Rattle.cr_descent.specs.Programs.{EndsOnce, ProgramIsAnswered, AnswersProgram}
+use Rattle.cr_descent.specs.LimitLaws.{HasNoWay, IsWithin}
+use Rattle.cr_descent.specs.Programs.{EndsOnce, ProgramIsAnswered, AnswersProgram, DepthIsEnough}
 use Rattle.std.proofs.lemmas.List.{append-nil}
 use Rattle.cr_descent.proofs.LimitKnot as knot
 
@@ -30,7 +32,7 @@ not_none [] rest t e = cc
 not_none (u ∷ a) rest t e = cc
 
 -- Nothing follows the one End.
-nothing_behind : (front a rest : List Token) (last t : Token) → All (λ (u : Token). look_of u.kind ≢ l.End) front → look_of t.kind ≡ l.End
+pub nothing_behind : (front a rest : List Token) (last t : Token) → All (λ (u : Token). look_of u.kind ≢ l.End) front → look_of t.kind ≡ l.End
     → a ++ t ∷ rest ≡ front ++ last ∷ [] → rest ≡ []
 nothing_behind [] [] rest last t no_other is e = ap tail e
 nothing_behind [] (u ∷ a) rest last t no_other is e = absurd (not_none a rest t (ap tail e))
@@ -48,8 +50,8 @@ whole list w rest x once parts spelled =
     subst (λ (v : List Token). Spells Program v x) is spelled
 
 -- The tree nests too deep by itself.
-deep : (list : List Token) (place : ℕ) → HasNoWay Program max_nesting (λ y. 0 + max 1 (nesting y)) list place → HasNoWay Program max_nesting nesting list place
-deep list place h = record {
+pub deep : (wanted : Wanted) (list : List Token) (place : ℕ) → HasNoWay wanted max_nesting (λ y. 0 + max 1 (nesting y)) list place → HasNoWay wanted max_nesting nesting list place
+deep wanted list place h = record {
   front = h.front;
   rest = h.rest;
   some = h.some;
@@ -62,8 +64,8 @@ deep list place h = record {
   beyond = λ more y alike c. omega (arith, h.beyond more y alike c);
 }
 
-few : (list : List Token) (place : ℕ) → HasNoWay Program max_nodes (λ y. 0 + nodes y) list place → HasNoWay Program max_nodes nodes list place
-few list place h = record {
+pub few : (wanted : Wanted) (list : List Token) (place : ℕ) → HasNoWay wanted max_nodes (λ y. 0 + nodes y) list place → HasNoWay wanted max_nodes nodes list place
+few wanted list place h = record {
   front = h.front;
   rest = h.rest;
   some = h.some;
@@ -83,10 +85,16 @@ as_program list s' (Ok x) once (longest, counted) = record {
   nested = omega (arith, counted.nested);
 }
 as_program list s' (Err (Unexpected place)) once answer = answer
-as_program list s' (Err (TooDeep place)) once answer = deep list place answer
-as_program list s' (Err (TooManyNodes place)) once answer = few list place answer
+as_program list s' (Err (TooDeep place)) once answer = deep Program list place answer
+as_program list s' (Err (TooManyNodes place)) once answer = few Program list place answer
 as_program list s' (Err NoMemory) once answer = tt
 
 pub program_is_answered : ReadersAnswer → ProgramIsAnswered
 program_is_answered answers turns n list s' r once reads =
     as_program list s' r once (answers turns n Program (start_of list) s' r (knot.new_cursor_is_limited Program list) reads)
+
+pub depth_is_enough : DepthIsEnough
+depth_is_enough turns n list x c few nested more =
+    let within : IsWithin Program (start_of list) x = record { before = knot.new_cursor_is_limited Program list; nested = omega (arith, nested); few = omega (arith, few) } in
+    let F = knot.found_if (read turns n Program (start_of list)) x _ [] (knot.within_is_found turns n n Program list [] x (start_of list) c (sym (append-nil list)) refl within) (omega arith, more) in
+    (F.0, F.1)

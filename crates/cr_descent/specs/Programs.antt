@@ -1,15 +1,15 @@
 -- What the reader of whole programs answers.
-use Rattle.std.specs.Prelude.{◌≡◌, ◌≢◌, ◌≤◌, ℕ, List, [], ◌∷◌, ◌++◌, All, Result, Ok, Err}
+use Rattle.std.specs.Prelude.{◌≡◌, ◌≢◌, ◌≤◌, ◌<◌, ℕ, List, [], ◌∷◌, ◌++◌, length, All, Result, Ok, Err}
 use Rattle.cr_syntax.specs.declared.look.TokenLook.TheVariants as l
 use Rattle.cr_syntax.specs.declared.token.Token.{Token}
 use Rattle.cr_syntax.specs.Look.{look_of}
 use Rattle.cr_grammar.specs.Count.{nodes, nesting}
 use Rattle.cr_grammar.specs.declared.tree.Tree.{Tree}
 use Rattle.cr_grammar.specs.declared.wanted.Wanted.TheVariants.{Program}
-use Rattle.cr_grammar.specs.Grammar.{Spells}
+use Rattle.cr_grammar.specs.Grammar.{Spells, Spells_in}
 use Rattle.cr_readers.specs.declared.fault.ParseFault.{ParseFault}
 use Rattle.cr_readers.specs.declared.fault.ParseFault.TheVariants.{Unexpected, TooDeep, TooManyNodes, NoMemory}
-use Rattle.cr_readers.specs.Reader.{State, max_nesting, max_nodes}
+use Rattle.cr_readers.specs.Reader.{State, Found, max_nesting, max_nodes}
 use Rattle.cr_readers.specs.Cursor.{start_of}
 use Rattle.cr_readers.specs.Reads.{Reads}
 use Rattle.cr_readers.specs.Descent.{read}
@@ -42,3 +42,8 @@ AnswersProgram list (Err NoMemory) = Unit {0}
 -- Whatever comes out as the reader of a program does, of a list that ends once, answers so.
 abbrev pub ProgramIsAnswered : Type 0
 ProgramIsAnswered = (turns n : ℕ) (list : List Token) (s' : State) (r : Result Tree ParseFault) → EndsOnce list → Reads (read turns n Program (start_of list)) r s' → AnswersProgram list r
+
+-- A program within the limits is found, with so many constructs in one another as spell it, and more turns than it has tokens.
+abbrev pub DepthIsEnough : Type 0
+DepthIsEnough = (turns n : ℕ) (list : List Token) (x : Tree) → Spells_in n Program list x → nodes x ≤ max_nodes → nesting x ≤ max_nesting → length list < turns
+    → (s' : State) × (read turns n Program (start_of list) ≡ Found x s')

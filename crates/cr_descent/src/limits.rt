@@ -1,4 +1,5 @@
-ghost use Rattle.cr_descent.specs.Programs.{ProgramIsAnswered};
+ghost use Rattle.cr_descent.specs.Programs.{DepthIsEnough, ProgramIsAnswered};
+ghost use Rattle.cr_descent.specs.Bodies.{BodyDepthIsEnough, BodyIsAnswered};
 ghost use Rattle.cr_descent.specs.Answers.{ReadersAnswer};
 ghost use Rattle.cr_descent.specs.LimitLaws.{BeginsLimited, FoundIsCounted, ReadersCount, TooDeepHasNoWay, TooManyHasNoWay, WithinIsFound, WithinIsFoundWhole};
 
@@ -51,4 +52,22 @@ pub fn readers_answer()
 /// why there is none.
 pub fn program_is_answered()
     ensures { ProgramIsAnswered }
+{}
+
+/// A program that is spelled within the limits is found, with so many constructs in one another as spell it, and more turns than it
+/// has tokens.
+pub fn depth_is_enough()
+    ensures { DepthIsEnough }
+{}
+
+/// Whatever comes out as the reader of a method's body does, of a list that ends once, answers with the one tree of its statements, or
+/// why there is none.
+pub fn body_is_answered()
+    ensures { BodyIsAnswered }
+{}
+
+/// A body that is spelled within the limits is found, with at least so many constructs in one another as spell its statements, and
+/// more turns than it has tokens.
+pub fn body_depth_is_enough()
+    ensures { BodyDepthIsEnough }
 {}
