@@ -24,6 +24,8 @@ pub fn keyword(text: &[u8]) -> Option<TokenLook>
     ensures { result ≡ keyword_of text.now }
 {
     match text {
+        // Each has two letters at least.
+        [_] => None,
         [b'a', ..] => lookup(&KEYWORDS[0..5], text),
         [b'b', ..] => lookup(&KEYWORDS[5..7], text),
         [b'c', ..] => lookup(&KEYWORDS[7..9], text),
