@@ -435,7 +435,10 @@ pub fn text_tokens(alloc: Global, source: &[u8]) -> Result<Vec<Token>, LexFault>
     ensures ok { IfOk result (λ tokens. spec.TextLexes source.now tokens.items) }
     ensures err { IfErr result (λ f. f ≢ fault.NoMemory → TextFails source.now f) }
 {
-    let mut tokens = Vec::new(alloc);
+    // Ordinary code has fewer tokens than this; a list that grows is moved.
+    let Ok(mut tokens) = Vec::with_capacity(alloc, source.len() / 2 + 1) else {
+        return Err(LexFault::NoMemory);
+    };
     let mut seen = Seen {
         nesting: Vec::new(alloc),
         last: TokenLook::Newline,
