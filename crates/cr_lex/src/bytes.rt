@@ -33,7 +33,10 @@ pub fn is_word_byte(b: u8) -> bool
 pub fn begins_content(b: u8) -> bool
     ensures { result ≡ content_begins b }
 {
-    is_digit(b) || (begins_name(b) || (begins_constant(b) || (b == b'@' || b == b'"')))
+    match b {
+        b'0'..=b'9' | b'a'..=b'z' | b'_' | b'A'..=b'Z' | b'@' | b'"' => true,
+        _ => false,
+    }
 }
 
 fn is_mark(b: u8) -> bool
