@@ -6,7 +6,8 @@ use Rattle.std.proofs.lemmas.Bool.{cases_lt}
 use Rattle.std.proofs.lemmas.Grind.{flat_map-append}
 use Rattle.std.proofs.lemmas.List.{append-nil, take-append-le, take_at, take_all, take_more, take-append-drop, at_drop_more}
 use Rattle.std.proofs.lemmas.Option.{get_or_from_slice_get, slice_get_within}
-use Rattle.cr_io.specs.Sink.{Appends, AppendsFront}
+use Rattle.cr_io.specs.Sink.{AppendsFront}
+use Rattle.cr_io.proofs.WriteLemmas.{Appends-append}
 use Rattle.cr_schedule.specs.declared.entry.Entry.{Entry}
 use Rattle.cr_schedule.specs.Trace.{ended_line, trace}
 use Rattle.cr_schedule.specs.Page.{Passes}
@@ -18,13 +19,6 @@ front_grows n text more =
       | inl lt ↦ (n, sym (take-append-le n text more (omega arith)))
       | inr le ↦ (length text, take_all n text le ∙ sym (take_at text more (length text) refl))
     ]
-
--- Two texts were written, one after the other.
-pub Appends-both : (w w' w'' : Option (List ℕ)) (first second : List ℕ) → Appends w first w' → Appends w' second w'' → Appends w (first ++ second) w''
-Appends-both None w' w'' first second one two = tt
-Appends-both (Some b) w' w'' first second one two =
-    let e : w'' ≡ Some ((b ++ first) ++ second) = subst (λ (v : Option (List ℕ)). Appends v second w'') one two in
-    e ∙ ap (λ (t : List ℕ). Some t) (append_assoc b first second)
 
 -- A text was written, and then a front of what stands on the page.
 pub Passes-front : (w w' w'' : Option (List ℕ)) (front page more whole : List ℕ) → whole ≡ front ++ more → Passes w front w' page → AppendsFront w' page w'' → AppendsFront w whole w''
@@ -60,16 +54,12 @@ Passes-more w w' w'' front page page' page'' line front' one two put is =
     ∙ ap (λ (t : List ℕ). t ++ line) (one.1 ∙ ap (λ (t : List ℕ). one.0 ++ t) two.1 ∙ sym (append_assoc one.0 two.0 page'))
     ∙ append_assoc (one.0 ++ two.0) page' line
     ∙ ap (λ (t : List ℕ). (one.0 ++ two.0) ++ t) (sym put) in
-    (one.0 ++ two.0, whole, Appends-both w w' w'' one.0 two.0 one.2 two.2)
+    (one.0 ++ two.0, whole, Appends-append w w' w'' one.0 two.0 one.2 two.2)
 
 -- the line has gone from the rest to the page
 pub line_moves : (page page' line rest rest' more : List ℕ) → page' ≡ page ++ line → rest ≡ line ++ rest' → page ++ (rest ++ more) ≡ page' ++ (rest' ++ more)
 line_moves page page' line rest rest' more put is =
     ap (λ (t : List ℕ). page ++ (t ++ more)) is ∙ ap (λ (t : List ℕ). page ++ t) (append_assoc line rest' more) ∙ sym (append_assoc page line (rest' ++ more)) ∙ ap (λ (t : List ℕ). t ++ (rest' ++ more)) (sym put)
-
-pub OnErr-any : {T E P : Type 0} (r : Result T E) → P → OnErr r P
-OnErr-any (Ok x) p = tt
-OnErr-any (Err e) p = p
 
 pub OnErr-map : {T E P Q : Type 0} (r : Result T E) → (P → Q) → OnErr r P → OnErr r Q
 OnErr-map (Ok x) f p = tt

@@ -2,7 +2,8 @@ use Rattle.std.proofs.Common.{◌∙◌, ◌+◌, List, ℕ, [], ◌++◌, take,
 use Rattle.std.proofs.lemmas.List.{append-nil}
 use Rattle.cr_schedule.specs.Trace.{trace, ended_line}
 use Rattle.cr_schedule.specs.Page.{Passes}
-use Rattle.cr_schedule.proofs.Sinks.{OnErr-any, OnErr-map, Passes-front, Passes-more, line_moves, trace-take-drop, trace-take_more, trace-drop_more}
+use Rattle.cr_io.proofs.WriteLemmas.{OnErr-any}
+use Rattle.cr_schedule.proofs.Sinks.{OnErr-map, Passes-front, Passes-more, line_moves, trace-take-drop, trace-take_more, trace-drop_more}
 use Rattle.cr_schedule.proofs.trace.write_trace.Goals as goal
 
 pub make_room-requires : goal.make_room-requires
