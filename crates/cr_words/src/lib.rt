@@ -15,4 +15,7 @@ pub use operand::{above, indexed, linked, named, whole, yielded};
 pub use operators::{
     Level, any_assignment, field_assignment, operator, operator_at, sees_operator,
 };
-pub use words::{constant, copy, ident, instance_variable, number, spelled};
+pub use words::{
+    constant, copy, exactly_ident, first_text, ident, instance_variable, last_text, middle_text,
+    number, spelled, whole_text,
+};

@@ -102,6 +102,89 @@ pub fn instance_variable(alloc: Global, cursor: &mut Cursor<'_>) -> Result<Word,
     Err(cursor.refuse())
 }
 
+/// Reads a text without insertions.
+///
+/// # Errors
+///
+/// `Unexpected` where none comes.
+pub fn whole_text(alloc: Global, cursor: &mut Cursor<'_>) -> Result<Word, ParseFault>
+    ensures { Reads (holder spec.whole_text (state_of cursor.old)) result (state_of cursor.new) }
+{
+    if let Some(token) = cursor.token() {
+        if let TokenKind::Text(text) = &token.kind {
+            return word(alloc, cursor, token, text);
+        }
+    }
+    Err(cursor.refuse())
+}
+
+/// Reads the part of a text before its first insertion.
+///
+/// # Errors
+///
+/// `Unexpected` where none comes.
+pub fn first_text(alloc: Global, cursor: &mut Cursor<'_>) -> Result<Word, ParseFault>
+    ensures { Reads (holder spec.first_text (state_of cursor.old)) result (state_of cursor.new) }
+{
+    if let Some(token) = cursor.token() {
+        if let TokenKind::TextFirst(text) = &token.kind {
+            return word(alloc, cursor, token, text);
+        }
+    }
+    Err(cursor.refuse())
+}
+
+/// Reads a part of a text between two insertions.
+///
+/// # Errors
+///
+/// `Unexpected` where none comes.
+pub fn middle_text(alloc: Global, cursor: &mut Cursor<'_>) -> Result<Word, ParseFault>
+    ensures { Reads (holder spec.middle_text (state_of cursor.old)) result (state_of cursor.new) }
+{
+    if let Some(token) = cursor.token() {
+        if let TokenKind::TextMiddle(text) = &token.kind {
+            return word(alloc, cursor, token, text);
+        }
+    }
+    Err(cursor.refuse())
+}
+
+/// Reads the part of a text behind its last insertion.
+///
+/// # Errors
+///
+/// `Unexpected` where none comes.
+pub fn last_text(alloc: Global, cursor: &mut Cursor<'_>) -> Result<Word, ParseFault>
+    ensures { Reads (holder spec.last_text (state_of cursor.old)) result (state_of cursor.new) }
+{
+    if let Some(token) = cursor.token() {
+        if let TokenKind::TextLast(text) = &token.kind {
+            return word(alloc, cursor, token, text);
+        }
+    }
+    Err(cursor.refuse())
+}
+
+/// Reads the name `text` and no other, and tells its place.
+///
+/// # Errors
+///
+/// `Unexpected` where another name comes, or none.
+pub fn exactly_ident(cursor: &mut Cursor<'_>, text: &str) -> Result<u32, ParseFault>
+    ensures { Reads (spec.exactly_ident text.now (state_of cursor.old)) result (state_of cursor.new) }
+{
+    if let Some(token) = cursor.token() {
+        if let TokenKind::Ident(found) = &token.kind {
+            if found.as_str() == text {
+                cursor.take();
+                return Ok(token.span.first);
+            }
+        }
+    }
+    Err(cursor.refuse())
+}
+
 /// Reads a number, and tells its place too.
 ///
 /// # Errors
