@@ -44,3 +44,4 @@ pub mod Computed
 pub mod Programs
 pub mod WholeBodies
 pub mod Answered
+pub mod Ends

@@ -2,6 +2,7 @@
 use Rattle.std.specs.Prelude.{◌≡◌, ◌≢◌, ◌≤◌, ◌<◌, ℕ, List, [], ◌∷◌, ◌++◌, length, All, Result, Ok, Err}
 use Rattle.cr_syntax.specs.declared.look.TokenLook.TheVariants as l
 use Rattle.cr_syntax.specs.declared.token.Token.{Token}
+use Rattle.cr_syntax.specs.Lexes.{Lexes}
 use Rattle.cr_syntax.specs.Look.{look_of}
 use Rattle.cr_grammar.specs.Count.{nodes, nesting}
 use Rattle.cr_grammar.specs.declared.tree.Tree.{Tree}
@@ -23,6 +24,10 @@ pub record EndsOnce (list : List Token) : Type 0 where
   pub parts : list ≡ front ++ last ∷ []
   pub is_end : look_of last.kind ≡ l.End
   pub no_other : All (λ (t : Token). look_of t.kind ≢ l.End) front
+
+-- The tokens of a source end once.
+abbrev pub TokensEndOnce : Type 0
+TokensEndOnce = (source : List ℕ) (list : List Token) → Lexes source list → EndsOnce list
 
 -- The whole list spells this tree, within both limits.
 pub record IsProgram (list : List Token) (x : Tree) : Type 0 where

@@ -22,6 +22,6 @@ pub use examples::{
 pub use laws::{each_reader_is_exact, first_unexpected, longest_front, one_tree, spelled_is_found};
 pub use limits::{
     body_depth_is_enough, body_is_answered, depth_is_enough, each_reader_counts, found_is_counted,
-    new_cursor_is_limited, program_is_answered, readers_answer, too_deep_has_no_way,
-    too_many_has_no_way, within_is_found, within_is_found_whole,
+    new_cursor_is_limited, program_is_answered, readers_answer, tokens_end_once,
+    too_deep_has_no_way, too_many_has_no_way, within_is_found, within_is_found_whole,
 };

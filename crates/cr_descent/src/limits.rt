@@ -1,4 +1,4 @@
-ghost use Rattle.cr_descent.specs.Programs.{DepthIsEnough, ProgramIsAnswered};
+ghost use Rattle.cr_descent.specs.Programs.{DepthIsEnough, ProgramIsAnswered, TokensEndOnce};
 ghost use Rattle.cr_descent.specs.Bodies.{BodyDepthIsEnough, BodyIsAnswered};
 ghost use Rattle.cr_descent.specs.Answers.{ReadersAnswer};
 ghost use Rattle.cr_descent.specs.LimitLaws.{BeginsLimited, FoundIsCounted, ReadersCount, TooDeepHasNoWay, TooManyHasNoWay, WithinIsFound, WithinIsFoundWhole};
@@ -52,6 +52,11 @@ pub fn readers_answer()
 /// why there is none.
 pub fn program_is_answered()
     ensures { ProgramIsAnswered }
+{}
+
+/// The last token of a source is End, and no other: so of whatever a lexer gives the laws of programs hold.
+pub fn tokens_end_once()
+    ensures { TokensEndOnce }
 {}
 
 /// A program that is spelled within the limits is found, with so many constructs in one another as spell it, and more turns than it
