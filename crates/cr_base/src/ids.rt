@@ -35,3 +35,12 @@ pub struct ChannelId(pub u32);
 /// An execution context of a run. The default one is 0.
 #[derive(Clone, Copy, Debug, PartialEq, Eq, Hash, PartialOrd, Ord)]
 pub struct ContextId(pub u32);
+
+/// A node of a program: its number in the order of the text, from 0. It is a number of its own, no byte place and no
+/// identifier of a thing of the program, and is never printed.
+#[derive(Clone, Copy, Debug, PartialEq, Eq, Hash, PartialOrd, Ord)]
+pub struct NodeId(pub u32);
+
+/// A name's place in the table of names that gave it.
+#[derive(Clone, Copy, Debug, PartialEq, Eq, Hash, PartialOrd, Ord)]
+pub struct NameId(pub u32);

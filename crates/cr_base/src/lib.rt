@@ -6,5 +6,6 @@ mod memory;
 
 pub use ids::{
     AtomId, BuiltinId, CellId, ChannelId, ClassId, ContextId, FiberId, InstanceId, MethodId,
+    NameId, NodeId,
 };
 pub use memory::NoMemory;

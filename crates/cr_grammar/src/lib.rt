@@ -3,7 +3,6 @@
 
 mod examples;
 mod laws;
-mod node;
 mod operator;
 mod tree;
 mod wanted;
@@ -20,7 +19,6 @@ pub use examples::{
 pub use laws::{
     do_is_not_the_arguments, first_token_is_known, no_command_stands_inside, unless_has_no_elsif,
 };
-pub use node::NodeId;
 pub use operator::{Assignment, Binary, Unary};
 pub use tree::Tree;
 pub use wanted::Wanted;

@@ -16,7 +16,7 @@ pub use laws::{
     operators_are_spelled, tokens_or_fault,
 };
 pub use look::TokenLook;
-pub use names::{NameId, Names};
+pub use names::Names;
 pub use open::Open;
 pub use text::TokenText;
 pub use token::{MAX_SOURCE_BYTES, Span, Token, TokenKind};

@@ -3,14 +3,10 @@ ghost use Rattle.std.specs.List.{IsDistinct};
 ghost use Rattle.std.specs.Str.{bytes_eq};
 ghost use Rattle.cr_syntax.specs.Names.{name_place, with_name};
 
-use cr_base::NoMemory;
+use cr_base::{NameId, NoMemory};
 use indexmap::IndexSet;
 use std::alloc::Global;
 use std::marker::Model;
-
-/// A name's place in the `Names` that gave it.
-#[derive(Clone, Copy, Debug, PartialEq, Eq, Hash, PartialOrd, Ord)]
-pub struct NameId(pub u32);
 
 /// Names, each once, in the order in which they first came.
 #[derive(Drop)]
