@@ -45,3 +45,4 @@ pub mod Programs
 pub mod WholeBodies
 pub mod Answered
 pub mod Ends
+pub mod Accepted

@@ -6,6 +6,7 @@ use Rattle.cr_syntax.specs.Lexes.{Lexes}
 use Rattle.cr_syntax.specs.Look.{look_of}
 use Rattle.cr_grammar.specs.Count.{nodes, nesting}
 use Rattle.cr_grammar.specs.declared.tree.Tree.{Tree}
+use Rattle.cr_grammar.specs.declared.wanted.Wanted.{Wanted}
 use Rattle.cr_grammar.specs.declared.wanted.Wanted.TheVariants.{Program}
 use Rattle.cr_grammar.specs.Grammar.{Spells, Spells_in}
 use Rattle.cr_readers.specs.declared.fault.ParseFault.{ParseFault}
@@ -52,3 +53,16 @@ ProgramIsAnswered = (turns n : ℕ) (list : List Token) (s' : State) (r : Result
 abbrev pub DepthIsEnough : Type 0
 DepthIsEnough = (turns n : ℕ) (list : List Token) (x : Tree) → Spells_in n Program list x → nodes x ≤ max_nodes → nesting x ≤ max_nesting → length list < turns
     → (s' : State) × (read turns n Program (start_of list) ≡ Found x s')
+
+-- the tree x, or want of memory
+abbrev pub IsOnly : Tree → Result Tree ParseFault → Type 0
+IsOnly x (Ok y) = y ≡ x
+IsOnly x (Err e) = e ≡ NoMemory
+
+-- What answers so of a program within the limits is its tree, or want of memory.
+abbrev pub ProgramIsAccepted : Type 0
+ProgramIsAccepted = (list : List Token) (x : Tree) (r : Result Tree ParseFault) → AnswersProgram list r → IsProgram list x → IsOnly x r
+
+-- There is at most one first unexpected token.
+abbrev pub AtMostOneUnexpected : Type 0
+AtMostOneUnexpected = (wanted : Wanted) (list : List Token) (p q : ℕ) → IsFirstUnexpected wanted list p → IsFirstUnexpected wanted list q → p ≡ q

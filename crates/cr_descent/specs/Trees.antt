@@ -1,5 +1,5 @@
--- Lists of tokens with the tree that they spell, and with trees that they do not.
-use Rattle.std.specs.Prelude.{ℕ, pos, true, false, List, [], ◌∷◌, codes, Some, None}
+-- Lists of tokens with the tree that they spell, and one with a tree that it does not spell.
+use Rattle.std.specs.Prelude.{pos, true, false, List, [], ◌∷◌, codes, Some, None}
 use Rattle.cr_syntax.specs.declared.token.Token.{Token}
 use Rattle.cr_syntax.specs.declared.look.TokenLook.TheVariants as l
 use Rattle.cr_syntax.specs.declared.token.TokenKind.TheVariants as k
@@ -25,189 +25,38 @@ abbrev pub Spelled : List TreeRow → Type 0
 Spelled [] = Unit {0}
 Spelled (row ∷ rows) = Spells Program row.0 row.1 × Spelled rows
 
--- brackets behind a name
-abbrev pub brackets : List TreeRow
-brackets =
+-- brackets and a block behind a name, a `-` behind what is no name, an operator of each level, a modifier, and a class
+abbrev pub trees : List TreeRow
+trees =
     -- x [1]
     spelled (spaced_at 0 1 (k.Ident (codes "x")) ∷ spaced_at 2 3 (k.Plain l.OpenBracket) ∷ tight_at 3 4 (k.Int32 (pos 1)) ∷ tight_at 4 5 (k.Plain l.CloseBracket) ∷ ended 5)
     (tree.Statements (tree.Call 0 None (codes "x") (tree.Array 2 (tree.Int32 3 (pos 1) ∷ []) None ∷ []) None ∷ []))
     -- x[1]
     ∷ spelled (spaced_at 0 1 (k.Ident (codes "x")) ∷ tight_at 1 2 (k.Plain l.OpenBracket) ∷ tight_at 2 3 (k.Int32 (pos 1)) ∷ tight_at 3 4 (k.Plain l.CloseBracket) ∷ ended 4)
     (tree.Statements (tree.Index 1 (name 0 (codes "x")) (tree.Int32 2 (pos 1) ∷ []) false ∷ []))
-    ∷ []
-
--- blocks, and whose they are
-abbrev pub blocks : List TreeRow
-blocks =
     -- foo x do end
-    spelled (spaced_at 0 3 (k.Ident (codes "foo")) ∷ spaced_at 4 5 (k.Ident (codes "x")) ∷ spaced_at 6 8 (k.Plain l.Do) ∷ spaced_at 9 12 (k.Plain l.KeywordEnd) ∷ ended 12)
+    ∷ spelled (spaced_at 0 3 (k.Ident (codes "foo")) ∷ spaced_at 4 5 (k.Ident (codes "x")) ∷ spaced_at 6 8 (k.Plain l.Do) ∷ spaced_at 9 12 (k.Plain l.KeywordEnd) ∷ ended 12)
     (tree.Statements (tree.Call 0 None (codes "foo") (name 4 (codes "x") ∷ []) (Some (tree.Block [] [])) ∷ []))
-    -- foo x { }
-    ∷ spelled (spaced_at 0 3 (k.Ident (codes "foo")) ∷ spaced_at 4 5 (k.Ident (codes "x")) ∷ spaced_at 6 7 (k.Plain l.OpenBrace) ∷ spaced_at 8 9 (k.Plain l.CloseBrace)
-    ∷ ended 9)
-    (tree.Statements (tree.Call 0 None (codes "foo") (tree.Call 4 None (codes "x") [] (Some (tree.Block [] [])) ∷ []) None ∷ []))
-    -- foo(x do end)
-    ∷ spelled (spaced_at 0 3 (k.Ident (codes "foo")) ∷ tight_at 3 4 (k.Plain l.OpenParenthesis) ∷ tight_at 4 5 (k.Ident (codes "x")) ∷ spaced_at 6 8 (k.Plain l.Do)
-    ∷ spaced_at 9 12 (k.Plain l.KeywordEnd) ∷ tight_at 12 13 (k.Plain l.CloseParenthesis) ∷ ended 13)
-    (tree.Statements (tree.Call 0 None (codes "foo") (tree.Call 4 None (codes "x") [] (Some (tree.Block [] [])) ∷ []) None ∷ []))
-    -- foo [x do end]
-    ∷ spelled (spaced_at 0 3 (k.Ident (codes "foo")) ∷ spaced_at 4 5 (k.Plain l.OpenBracket) ∷ tight_at 5 6 (k.Ident (codes "x")) ∷ spaced_at 7 9 (k.Plain l.Do)
-    ∷ spaced_at 10 13 (k.Plain l.KeywordEnd) ∷ tight_at 13 14 (k.Plain l.CloseBracket) ∷ ended 14)
-    (tree.Statements (tree.Call 0 None (codes "foo") (tree.Array 4 (tree.Call 5 None (codes "x") []
-    (Some (tree.Block [] [])) ∷ []) None ∷ []) None ∷ []))
-    -- while x do; end; end
-    ∷ spelled (spaced_at 0 5 (k.Plain l.While) ∷ spaced_at 6 7 (k.Ident (codes "x")) ∷ spaced_at 8 10 (k.Plain l.Do) ∷ tight_at 10 11 (k.Plain l.Newline) ∷ spaced_at 12 15 (k.Plain l.KeywordEnd)
-    ∷ tight_at 15 16 (k.Plain l.Newline) ∷ spaced_at 17 20 (k.Plain l.KeywordEnd) ∷ ended 20)
-    (tree.Statements (tree.While 0 false (tree.Call 6 None (codes "x") [] (Some (tree.Block [] []))) [] ∷ []))
-    ∷ []
-
--- a `-` behind what is no name
-abbrev pub differences : List TreeRow
-differences =
-    -- (a) -b
-    spelled (spaced_at 0 1 (k.Plain l.OpenParenthesis) ∷ tight_at 1 2 (k.Ident (codes "a")) ∷ tight_at 2 3 (k.Plain l.CloseParenthesis) ∷ spaced_at 4 5 (k.Plain l.Minus)
-    ∷ tight_at 5 6 (k.Ident (codes "b")) ∷ ended 6)
-    (tree.Statements (tree.Binary 4 binary.Minus (name 1 (codes "a")) (name 5 (codes "b")) ∷ []))
     -- a[0] -b
     ∷ spelled (spaced_at 0 1 (k.Ident (codes "a")) ∷ tight_at 1 2 (k.Plain l.OpenBracket) ∷ tight_at 2 3 (k.Int32 (pos 0)) ∷ tight_at 3 4 (k.Plain l.CloseBracket)
     ∷ spaced_at 5 6 (k.Plain l.Minus) ∷ tight_at 6 7 (k.Ident (codes "b")) ∷ ended 7)
     (tree.Statements (tree.Binary 5 binary.Minus (tree.Index 1 (name 0 (codes "a")) (tree.Int32 2 (pos 0) ∷ []) false) (name 6 (codes "b")) ∷ []))
-    -- a.nil? -b
-    ∷ spelled (spaced_at 0 1 (k.Ident (codes "a")) ∷ tight_at 1 2 (k.Plain l.Dot) ∷ tight_at 2 6 (k.Plain l.IsNil) ∷ spaced_at 7 8 (k.Plain l.Minus) ∷ tight_at 8 9 (k.Ident (codes "b"))
-    ∷ ended 9)
-    (tree.Statements (tree.Binary 7 binary.Minus (tree.IsNil 2 (name 0 (codes "a"))) (name 8 (codes "b")) ∷ []))
-    -- class A; def f; @x -self; end; end
-    ∷ spelled (spaced_at 0 5 (k.Plain l.Class) ∷ spaced_at 6 7 (k.Constant (codes "A")) ∷ tight_at 7 8 (k.Plain l.Newline) ∷ spaced_at 9 12 (k.Plain l.Def)
-    ∷ spaced_at 13 14 (k.Ident (codes "f")) ∷ tight_at 14 15 (k.Plain l.Newline) ∷ spaced_at 16 18 (k.InstanceVariable (codes "x")) ∷ spaced_at 19 20 (k.Plain l.Minus)
-    ∷ tight_at 20 24 (k.Plain l.KeywordSelf) ∷ tight_at 24 25 (k.Plain l.Newline) ∷ spaced_at 26 29 (k.Plain l.KeywordEnd) ∷ tight_at 29 30 (k.Plain l.Newline) ∷ spaced_at 31 34 (k.Plain l.KeywordEnd) ∷ ended 34)
-    (tree.Statements (tree.Class 0 (codes "A") [] None (tree.Def 9 (codes "f") [] None (tree.Binary 19 binary.Minus
-    (tree.InstanceVariable 16 (codes "x")) (tree.KeywordSelf 20) ∷ []) ∷ []) ∷ []))
-    -- x - \n1
-    ∷ spelled (spaced_at 0 1 (k.Ident (codes "x")) ∷ spaced_at 2 3 (k.Plain l.Minus) ∷ spaced_at 4 5 (k.Plain l.Newline) ∷ spaced_at 5 6 (k.Int32 (pos 1)) ∷ ended 6)
-    (tree.Statements (tree.Binary 2 binary.Minus (name 0 (codes "x")) (tree.Int32 5 (pos 1)) ∷ []))
-    ∷ []
-
--- line feeds that are skipped
-abbrev pub line_feeds : List TreeRow
-line_feeds =
-    -- a ||\n\nb
-    spelled (spaced_at 0 1 (k.Ident (codes "a")) ∷ spaced_at 2 4 (k.Plain l.OrOr) ∷ tight_at 4 5 (k.Plain l.Newline) ∷ spaced_at 5 6 (k.Plain l.Newline)
-    ∷ spaced_at 6 7 (k.Ident (codes "b")) ∷ ended 7)
-    (tree.Statements (tree.Binary 2 binary.Or (name 0 (codes "a")) (name 6 (codes "b")) ∷ []))
-    -- f(\n1,\n2\n)
-    ∷ spelled (spaced_at 0 1 (k.Ident (codes "f")) ∷ tight_at 1 2 (k.Plain l.OpenParenthesis) ∷ tight_at 2 3 (k.Plain l.Newline) ∷ spaced_at 3 4 (k.Int32 (pos 1))
-    ∷ tight_at 4 5 (k.Plain l.Comma) ∷ tight_at 5 6 (k.Plain l.Newline) ∷ spaced_at 6 7 (k.Int32 (pos 2)) ∷ tight_at 7 8 (k.Plain l.Newline) ∷ spaced_at 8 9 (k.Plain l.CloseParenthesis) ∷ ended 9)
-    (tree.Statements (tree.Call 0 None (codes "f") (tree.Int32 3 (pos 1) ∷ tree.Int32 6 (pos 2) ∷ []) None ∷ []))
-    -- [\n1\n]
-    ∷ spelled (spaced_at 0 1 (k.Plain l.OpenBracket) ∷ tight_at 1 2 (k.Plain l.Newline) ∷ spaced_at 2 3 (k.Int32 (pos 1)) ∷ tight_at 3 4 (k.Plain l.Newline) ∷ spaced_at 4 5 (k.Plain l.CloseBracket)
-    ∷ ended 5)
-    (tree.Statements (tree.Array 0 (tree.Int32 2 (pos 1) ∷ []) None ∷ []))
-    -- {\n1 =>\n2}
-    ∷ spelled (spaced_at 0 1 (k.Plain l.OpenBrace) ∷ tight_at 1 2 (k.Plain l.Newline) ∷ spaced_at 2 3 (k.Int32 (pos 1)) ∷ spaced_at 4 6 (k.Plain l.Arrow) ∷ tight_at 6 7 (k.Plain l.Newline)
-    ∷ spaced_at 7 8 (k.Int32 (pos 2)) ∷ tight_at 8 9 (k.Plain l.CloseBrace) ∷ ended 9)
-    (tree.Statements (tree.Hash 0 (tree.Pair (tree.Int32 2 (pos 1)) (tree.Int32 7 (pos 2)) ∷ []) None ∷ []))
-    ∷ []
-
--- what is assigned, and what to it
-abbrev pub assignments : List TreeRow
-assignments =
-    -- x = y = 1
-    spelled (spaced_at 0 1 (k.Ident (codes "x")) ∷ spaced_at 2 3 (k.Plain l.Equal) ∷ spaced_at 4 5 (k.Ident (codes "y")) ∷ spaced_at 6 7 (k.Plain l.Equal)
-    ∷ spaced_at 8 9 (k.Int32 (pos 1)) ∷ ended 9)
-    (tree.Statements (tree.Assign 0 (name 0 (codes "x")) assignment.Plain 2 (tree.Assign 4 (name 4 (codes "y")) assignment.Plain 6
-    (tree.Int32 8 (pos 1))) ∷ []))
-    -- a[0] += 1
-    ∷ spelled (spaced_at 0 1 (k.Ident (codes "a")) ∷ tight_at 1 2 (k.Plain l.OpenBracket) ∷ tight_at 2 3 (k.Int32 (pos 0)) ∷ tight_at 3 4 (k.Plain l.CloseBracket)
-    ∷ spaced_at 5 7 (k.Plain l.PlusEqual) ∷ spaced_at 8 9 (k.Int32 (pos 1)) ∷ ended 9)
-    (tree.Statements (tree.Assign 0 (tree.Index 1 (name 0 (codes "a")) (tree.Int32 2 (pos 0) ∷ []) false) assignment.Plus 5
-    (tree.Int32 8 (pos 1)) ∷ []))
-    -- a.b.c = d 1
-    ∷ spelled (spaced_at 0 1 (k.Ident (codes "a")) ∷ tight_at 1 2 (k.Plain l.Dot) ∷ tight_at 2 3 (k.Ident (codes "b")) ∷ tight_at 3 4 (k.Plain l.Dot)
-    ∷ tight_at 4 5 (k.Ident (codes "c")) ∷ spaced_at 6 7 (k.Plain l.Equal) ∷ spaced_at 8 9 (k.Ident (codes "d")) ∷ spaced_at 10 11 (k.Int32 (pos 1)) ∷ ended 11)
-    (tree.Statements (tree.Assign 0 (tree.Call 4 (Some (tree.Call 2
-    (Some (name 0 (codes "a"))) (codes "b") [] None)) (codes "c") [] None) assignment.Plain 6 (tree.Call 8 None (codes "d")
-    (tree.Int32 10 (pos 1) ∷ []) None) ∷ []))
-    -- x ||= 1
-    ∷ spelled (spaced_at 0 1 (k.Ident (codes "x")) ∷ spaced_at 2 5 (k.Plain l.OrOrEqual) ∷ spaced_at 6 7 (k.Int32 (pos 1)) ∷ ended 7)
-    (tree.Statements (tree.Assign 0 (name 0 (codes "x")) assignment.Or 2 (tree.Int32 6 (pos 1)) ∷ []))
-    ∷ []
-
--- an operator of each level
-abbrev pub levels : List TreeRow
-levels =
     -- a || b && c == d << e + f * -g
-    spelled (spaced_at 0 1 (k.Ident (codes "a")) ∷ spaced_at 2 4 (k.Plain l.OrOr) ∷ spaced_at 5 6 (k.Ident (codes "b")) ∷ spaced_at 7 9 (k.Plain l.AndAnd)
+    ∷ spelled (spaced_at 0 1 (k.Ident (codes "a")) ∷ spaced_at 2 4 (k.Plain l.OrOr) ∷ spaced_at 5 6 (k.Ident (codes "b")) ∷ spaced_at 7 9 (k.Plain l.AndAnd)
     ∷ spaced_at 10 11 (k.Ident (codes "c")) ∷ spaced_at 12 14 (k.Plain l.EqualEqual) ∷ spaced_at 15 16 (k.Ident (codes "d")) ∷ spaced_at 17 19 (k.Plain l.ShiftLeft)
     ∷ spaced_at 20 21 (k.Ident (codes "e")) ∷ spaced_at 22 23 (k.Plain l.Plus) ∷ spaced_at 24 25 (k.Ident (codes "f")) ∷ spaced_at 26 27 (k.Plain l.Star) ∷ spaced_at 28 29 (k.Plain l.Minus)
     ∷ tight_at 29 30 (k.Ident (codes "g")) ∷ ended 30)
     (tree.Statements (tree.Binary 2 binary.Or (name 0 (codes "a")) (tree.Binary 7 binary.And (name 5 (codes "b")) (tree.Binary 12 binary.Equal
     (name 10 (codes "c")) (tree.Binary 17 binary.ShiftLeft (name 15 (codes "d")) (tree.Binary 22 binary.Plus (name 20 (codes "e"))
     (tree.Binary 26 binary.Star (name 24 (codes "f")) (tree.Unary 28 prefix.Negate (name 29 (codes "g")))))))) ∷ []))
-    ∷ []
-
--- words in their scope
-abbrev pub scopes : List TreeRow
-scopes =
-    -- while break; end
-    spelled (spaced_at 0 5 (k.Plain l.While) ∷ spaced_at 6 11 (k.Plain l.Break) ∷ tight_at 11 12 (k.Plain l.Newline) ∷ spaced_at 13 16 (k.Plain l.KeywordEnd) ∷ ended 16)
-    (tree.Statements (tree.While 0 false (tree.Break 6) [] ∷ []))
-    -- x { next 1 }
-    ∷ spelled (spaced_at 0 1 (k.Ident (codes "x")) ∷ spaced_at 2 3 (k.Plain l.OpenBrace) ∷ spaced_at 4 8 (k.Plain l.Next) ∷ spaced_at 9 10 (k.Int32 (pos 1))
-    ∷ spaced_at 11 12 (k.Plain l.CloseBrace) ∷ ended 12)
-    (tree.Statements (tree.Call 0 None (codes "x") [] (Some (tree.Block [] (tree.Next 4 (Some (tree.Int32 9 (pos 1))) ∷ []))) ∷ []))
-    -- def f(x, x); super; super(); end
-    ∷ spelled (spaced_at 0 3 (k.Plain l.Def) ∷ spaced_at 4 5 (k.Ident (codes "f")) ∷ tight_at 5 6 (k.Plain l.OpenParenthesis) ∷ tight_at 6 7 (k.Ident (codes "x"))
-    ∷ tight_at 7 8 (k.Plain l.Comma) ∷ spaced_at 9 10 (k.Ident (codes "x")) ∷ tight_at 10 11 (k.Plain l.CloseParenthesis) ∷ tight_at 11 12 (k.Plain l.Newline) ∷ spaced_at 13 18 (k.Plain l.Super)
-    ∷ tight_at 18 19 (k.Plain l.Newline) ∷ spaced_at 20 25 (k.Plain l.Super) ∷ tight_at 25 26 (k.Plain l.OpenParenthesis) ∷ tight_at 26 27 (k.Plain l.CloseParenthesis) ∷ tight_at 27 28 (k.Plain l.Newline)
-    ∷ spaced_at 29 32 (k.Plain l.KeywordEnd) ∷ ended 32)
-    (tree.Statements (tree.Def 0 (codes "f") (tree.Parameter 6 false (codes "x") None ∷ tree.Parameter 9 false (codes "x") None ∷ []) None
-    (tree.BareSuper 13 ∷ tree.Super 20 [] ∷ []) ∷ []))
-    ∷ []
-
--- what stands behind a class
-abbrev pub news : List TreeRow
-news =
-    -- Fiber::ExecutionContext::Isolated.new("a") { }
-    spelled (spaced_at 0 5 (k.Constant (codes "Fiber")) ∷ tight_at 5 7 (k.Plain l.ColonColon) ∷ tight_at 7 23 (k.Constant (codes "ExecutionContext"))
-    ∷ tight_at 23 25 (k.Plain l.ColonColon) ∷ tight_at 25 33 (k.Constant (codes "Isolated")) ∷ tight_at 33 34 (k.Plain l.Dot) ∷ tight_at 34 37 (k.Ident (codes "new"))
-    ∷ tight_at 37 38 (k.Plain l.OpenParenthesis) ∷ tight_at 38 41 (k.Text (codes "a")) ∷ tight_at 41 42 (k.Plain l.CloseParenthesis) ∷ spaced_at 43 44 (k.Plain l.OpenBrace)
-    ∷ spaced_at 45 46 (k.Plain l.CloseBrace) ∷ ended 46)
-    (tree.Statements (tree.New 34 (tree.Atom 0 (codes "Fiber" ∷ codes "ExecutionContext" ∷ codes "Isolated" ∷ []) []) false
-    (tree.Text 38 (codes "a") ∷ []) (Some (tree.Block [] [])) ∷ []))
-    -- A(B?).new(1)
-    ∷ spelled (spaced_at 0 1 (k.Constant (codes "A")) ∷ tight_at 1 2 (k.Plain l.OpenParenthesis) ∷ tight_at 2 3 (k.Constant (codes "B")) ∷ tight_at 3 4 (k.Plain l.Question)
-    ∷ tight_at 4 5 (k.Plain l.CloseParenthesis) ∷ tight_at 5 6 (k.Plain l.Dot) ∷ tight_at 6 9 (k.Ident (codes "new")) ∷ tight_at 9 10 (k.Plain l.OpenParenthesis)
-    ∷ tight_at 10 11 (k.Int32 (pos 1)) ∷ tight_at 11 12 (k.Plain l.CloseParenthesis) ∷ ended 12)
-    (tree.Statements (tree.New 6 (tree.Atom 0 (codes "A" ∷ []) (tree.Union
-    (tree.Atom 2 (codes "B" ∷ []) [] ∷ tree.Atom 3 (codes "Nil" ∷ []) [] ∷ []) ∷ [])) false (tree.Int32 10 (pos 1) ∷ []) None ∷ []))
-    -- Fiber.yield
-    ∷ spelled (spaced_at 0 5 (k.Constant (codes "Fiber")) ∷ tight_at 5 6 (k.Plain l.Dot) ∷ tight_at 6 11 (k.Plain l.Yield) ∷ ended 11)
-    (tree.Statements (tree.Pause 0 ∷ []))
-    ∷ []
-
--- members with marks in their names
-abbrev pub definitions : List TreeRow
-definitions =
-    -- def []=(i, v); end
-    spelled (spaced_at 0 3 (k.Plain l.Def) ∷ spaced_at 4 5 (k.Plain l.OpenBracket) ∷ tight_at 5 6 (k.Plain l.CloseBracket) ∷ tight_at 6 7 (k.Plain l.Equal) ∷ tight_at 7 8 (k.Plain l.OpenParenthesis)
-    ∷ tight_at 8 9 (k.Ident (codes "i")) ∷ tight_at 9 10 (k.Plain l.Comma) ∷ spaced_at 11 12 (k.Ident (codes "v")) ∷ tight_at 12 13 (k.Plain l.CloseParenthesis)
-    ∷ tight_at 13 14 (k.Plain l.Newline) ∷ spaced_at 15 18 (k.Plain l.KeywordEnd) ∷ ended 18)
-    (tree.Statements (tree.Def 0 (codes "[]=")
-    (tree.Parameter 8 false (codes "i") None ∷ tree.Parameter 11 false (codes "v") None ∷ []) None [] ∷ []))
-    -- def []?(i); end
-    ∷ spelled (spaced_at 0 3 (k.Plain l.Def) ∷ spaced_at 4 5 (k.Plain l.OpenBracket) ∷ tight_at 5 6 (k.Plain l.CloseBracket) ∷ tight_at 6 7 (k.Plain l.Question) ∷ tight_at 7 8 (k.Plain l.OpenParenthesis)
-    ∷ tight_at 8 9 (k.Ident (codes "i")) ∷ tight_at 9 10 (k.Plain l.CloseParenthesis) ∷ tight_at 10 11 (k.Plain l.Newline) ∷ spaced_at 12 15 (k.Plain l.KeywordEnd) ∷ ended 15)
-    (tree.Statements (tree.Def 0 (codes "[]?") (tree.Parameter 8 false (codes "i") None ∷ []) None [] ∷ []))
-    -- def ==(o : A | B); end
-    ∷ spelled (spaced_at 0 3 (k.Plain l.Def) ∷ spaced_at 4 6 (k.Plain l.EqualEqual) ∷ tight_at 6 7 (k.Plain l.OpenParenthesis) ∷ tight_at 7 8 (k.Ident (codes "o"))
-    ∷ spaced_at 9 10 (k.Plain l.Colon) ∷ spaced_at 11 12 (k.Constant (codes "A")) ∷ spaced_at 13 14 (k.Plain l.Pipe) ∷ spaced_at 15 16 (k.Constant (codes "B"))
-    ∷ tight_at 16 17 (k.Plain l.CloseParenthesis) ∷ tight_at 17 18 (k.Plain l.Newline) ∷ spaced_at 19 22 (k.Plain l.KeywordEnd) ∷ ended 22)
-    (tree.Statements (tree.Def 0 (codes "==") (tree.Parameter 7 false (codes "o") (Some (tree.Union
-    (tree.Atom 11 (codes "A" ∷ []) [] ∷ tree.Atom 15 (codes "B" ∷ []) [] ∷ []))) ∷ []) None [] ∷ []))
-    -- class A; getter a?; end
-    ∷ spelled (spaced_at 0 5 (k.Plain l.Class) ∷ spaced_at 6 7 (k.Constant (codes "A")) ∷ tight_at 7 8 (k.Plain l.Newline) ∷ spaced_at 9 15 (k.Plain l.Getter)
-    ∷ spaced_at 16 18 (k.Ident (codes "a?")) ∷ tight_at 18 19 (k.Plain l.Newline) ∷ spaced_at 20 23 (k.Plain l.KeywordEnd) ∷ ended 23)
-    (tree.Statements (tree.Class 0 (codes "A") [] None (tree.Accessors 9 false (tree.Accessor 16 (codes "a?") None ∷ []) ∷ []) ∷ []))
+    -- x=[1,2]; x<<3 unless x.empty?
+    ∷ spelled (spaced_at 0 1 (k.Ident (codes "x")) ∷ tight_at 1 2 (k.Plain l.Equal) ∷ tight_at 2 3 (k.Plain l.OpenBracket) ∷ tight_at 3 4 (k.Int32 (pos 1))
+    ∷ tight_at 4 5 (k.Plain l.Comma) ∷ tight_at 5 6 (k.Int32 (pos 2)) ∷ tight_at 6 7 (k.Plain l.CloseBracket) ∷ tight_at 7 8 (k.Plain l.Newline) ∷ spaced_at 9 10 (k.Ident (codes "x"))
+    ∷ tight_at 10 12 (k.Plain l.ShiftLeft) ∷ tight_at 12 13 (k.Int32 (pos 3)) ∷ spaced_at 14 20 (k.Plain l.Unless) ∷ spaced_at 21 22 (k.Ident (codes "x")) ∷ tight_at 22 23 (k.Plain l.Dot)
+    ∷ tight_at 23 29 (k.Ident (codes "empty?")) ∷ ended 29)
+    (tree.Statements (tree.Assign 0 (name 0 (codes "x")) assignment.Plain 1 (tree.Array 2
+    (tree.Int32 3 (pos 1) ∷ tree.Int32 5 (pos 2) ∷ []) None) ∷ tree.If 9 true (tree.Call 23 (Some (name 21 (codes "x"))) (codes "empty?") [] None)
+    (tree.Binary 10 binary.ShiftLeft (name 9 (codes "x")) (tree.Int32 12 (pos 3)) ∷ []) [] None ∷ []))
     -- class A; def initialize(@x : T?); end; end
     ∷ spelled (spaced_at 0 5 (k.Plain l.Class) ∷ spaced_at 6 7 (k.Constant (codes "A")) ∷ tight_at 7 8 (k.Plain l.Newline) ∷ spaced_at 9 12 (k.Plain l.Def)
     ∷ spaced_at 13 23 (k.Ident (codes "initialize")) ∷ tight_at 23 24 (k.Plain l.OpenParenthesis) ∷ tight_at 24 26 (k.InstanceVariable (codes "x"))
@@ -217,23 +66,7 @@ definitions =
     (tree.Atom 29 (codes "T" ∷ []) [] ∷ tree.Atom 30 (codes "Nil" ∷ []) [] ∷ []))) ∷ []) None [] ∷ []) ∷ []))
     ∷ []
 
--- statements, as they are run
-abbrev pub statements : List TreeRow
-statements =
-    -- puts 1 + 2
-    spelled (spaced_at 0 4 (k.Ident (codes "puts")) ∷ spaced_at 5 6 (k.Int32 (pos 1)) ∷ spaced_at 7 8 (k.Plain l.Plus) ∷ spaced_at 9 10 (k.Int32 (pos 2)) ∷ ended 10)
-    (tree.Statements (tree.Call 0 None (codes "puts") (tree.Binary 7 binary.Plus (tree.Int32 5 (pos 1)) (tree.Int32 9 (pos 2)) ∷ []) None ∷ []))
-    -- x=[1,2]; x<<3 unless x.empty?
-    ∷ spelled (spaced_at 0 1 (k.Ident (codes "x")) ∷ tight_at 1 2 (k.Plain l.Equal) ∷ tight_at 2 3 (k.Plain l.OpenBracket) ∷ tight_at 3 4 (k.Int32 (pos 1))
-    ∷ tight_at 4 5 (k.Plain l.Comma) ∷ tight_at 5 6 (k.Int32 (pos 2)) ∷ tight_at 6 7 (k.Plain l.CloseBracket) ∷ tight_at 7 8 (k.Plain l.Newline) ∷ spaced_at 9 10 (k.Ident (codes "x"))
-    ∷ tight_at 10 12 (k.Plain l.ShiftLeft) ∷ tight_at 12 13 (k.Int32 (pos 3)) ∷ spaced_at 14 20 (k.Plain l.Unless) ∷ spaced_at 21 22 (k.Ident (codes "x")) ∷ tight_at 22 23 (k.Plain l.Dot)
-    ∷ tight_at 23 29 (k.Ident (codes "empty?")) ∷ ended 29)
-    (tree.Statements (tree.Assign 0 (name 0 (codes "x")) assignment.Plain 1 (tree.Array 2
-    (tree.Int32 3 (pos 1) ∷ tree.Int32 5 (pos 2) ∷ []) None) ∷ tree.If 9 true (tree.Call 23 (Some (name 21 (codes "x"))) (codes "empty?") [] None)
-    (tree.Binary 10 binary.ShiftLeft (name 9 (codes "x")) (tree.Int32 12 (pos 3)) ∷ []) [] None ∷ []))
-    ∷ []
-
--- ---- other trees
+-- ---- another tree
 
 -- 1 - 2 - 3
 abbrev pub two_differences : List Token
@@ -245,47 +78,6 @@ abbrev pub GroupsNotRight : Type 0
 GroupsNotRight =
     Spells Program two_differences
     (tree.Statements (tree.Binary 2 binary.Minus (tree.Int32 0 (pos 1)) (tree.Binary 6 binary.Minus (tree.Int32 4 (pos 2)) (tree.Int32 8 (pos 3))) ∷ []))
-    → ⊥
-
--- foo x do end
-abbrev pub command_with_do : List Token
-command_with_do = spaced_at 0 3 (k.Ident (codes "foo")) ∷ spaced_at 4 5 (k.Ident (codes "x")) ∷ spaced_at 6 8 (k.Plain l.Do) ∷ spaced_at 9 12 (k.Plain l.KeywordEnd) ∷ ended 12
-
--- It does not spell `foo(x do end)`.
-abbrev pub BlockIsNotTheArguments : Type 0
-BlockIsNotTheArguments =
-    Spells Program command_with_do
-    (tree.Statements (tree.Call 0 None (codes "foo") (tree.Call 4 None (codes "x") [] (Some (tree.Block [] [])) ∷ []) None ∷ []))
-    → ⊥
-
--- x [1]
-abbrev pub spaced_bracket : List Token
-spaced_bracket =
-    spaced_at 0 1 (k.Ident (codes "x")) ∷ spaced_at 2 3 (k.Plain l.OpenBracket) ∷ tight_at 3 4 (k.Int32 (pos 1)) ∷ tight_at 4 5 (k.Plain l.CloseBracket) ∷ ended 5
-
--- It does not spell `x[1]`, whatever the place of the index.
-abbrev pub ArrayIsNoIndex : Type 0
-ArrayIsNoIndex = (at : ℕ) → Spells Program spaced_bracket (tree.Statements (tree.Index at (name 0 (codes "x")) (tree.Int32 3 (pos 1) ∷ []) false ∷ [])) → ⊥
-
--- x[1]
-abbrev pub tight_bracket : List Token
-tight_bracket =
-    spaced_at 0 1 (k.Ident (codes "x")) ∷ tight_at 1 2 (k.Plain l.OpenBracket) ∷ tight_at 2 3 (k.Int32 (pos 1)) ∷ tight_at 3 4 (k.Plain l.CloseBracket) ∷ ended 4
-
--- It does not spell `x [1]`, wherever the array stands.
-abbrev pub IndexIsNoArray : Type 0
-IndexIsNoArray = (at : ℕ) → Spells Program tight_bracket (tree.Statements (tree.Call 0 None (codes "x") (tree.Array at (tree.Int32 2 (pos 1) ∷ []) None ∷ []) None ∷ [])) → ⊥
-
--- x = 1 if c
-abbrev pub assignment_with_modifier : List Token
-assignment_with_modifier =
-    spaced_at 0 1 (k.Ident (codes "x")) ∷ spaced_at 2 3 (k.Plain l.Equal) ∷ spaced_at 4 5 (k.Int32 (pos 1)) ∷ spaced_at 6 8 (k.Plain l.If) ∷ spaced_at 9 10 (k.Ident (codes "c")) ∷ ended 10
-
--- It does not spell `x = (1 if c)`.
-abbrev pub ConditionIsNotAssigned : Type 0
-ConditionIsNotAssigned =
-    Spells Program assignment_with_modifier
-    (tree.Statements (tree.Assign 0 (name 0 (codes "x")) assignment.Plain 2 (tree.If 4 false (name 9 (codes "c")) (tree.Int32 4 (pos 1) ∷ []) [] None) ∷ []))
     → ⊥
 
 -- ---- a whole program

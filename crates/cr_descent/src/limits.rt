@@ -1,4 +1,4 @@
-ghost use Rattle.cr_descent.specs.Programs.{DepthIsEnough, ProgramIsAnswered, TokensEndOnce};
+ghost use Rattle.cr_descent.specs.Programs.{AtMostOneUnexpected, DepthIsEnough, ProgramIsAccepted, ProgramIsAnswered, TokensEndOnce};
 ghost use Rattle.cr_descent.specs.Bodies.{BodyDepthIsEnough, BodyIsAnswered};
 ghost use Rattle.cr_descent.specs.Answers.{ReadersAnswer};
 ghost use Rattle.cr_descent.specs.LimitLaws.{BeginsLimited, FoundIsCounted, ReadersCount, TooDeepHasNoWay, TooManyHasNoWay, WithinIsFound, WithinIsFoundWhole};
@@ -52,6 +52,16 @@ pub fn readers_answer()
 /// why there is none.
 pub fn program_is_answered()
     ensures { ProgramIsAnswered }
+{}
+
+/// What answers so of a program within the limits is its tree, or want of memory: it is refused nowhere.
+pub fn program_is_accepted()
+    ensures { ProgramIsAccepted }
+{}
+
+/// A list has at most one first token with which nothing that is spelled begins.
+pub fn one_token_is_unexpected()
+    ensures { AtMostOneUnexpected }
 {}
 
 /// The last token of a source is End, and no other: so of whatever a lexer gives the laws of programs hold.

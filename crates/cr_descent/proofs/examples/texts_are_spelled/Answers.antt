@@ -1,0 +1,5 @@
+use Rattle.cr_descent.proofs.Computed as computed
+use Rattle.cr_descent.proofs.examples.texts_are_spelled.Goals as goal
+
+pub returns : goal.returns
+returns c = computed.spelled_texts
