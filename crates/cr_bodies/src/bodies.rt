@@ -33,7 +33,9 @@ fn in_block(within: Within) -> Within
     }
 }
 
-impl<F: Fn(Global, usize, usize, Wanted, &mut Cursor<'_>) -> Result<Tree, ParseFault>> Parser<F> {
+impl<
+    F: Fn(Global, usize, usize, Wanted, &mut Cursor<'_>) -> Result<Boxed<Tree>, ParseFault>,
+> Parser<F> {
     /// The statements of a body.
     #[tactic(auto, unfolding(cr_readers::specs::Bodies::body))]
     pub fn body(&self, cursor: &mut Cursor<'_>, within: Within) -> Result<Items<Tree>, ParseFault>
@@ -60,7 +62,11 @@ impl<F: Fn(Global, usize, usize, Wanted, &mut Cursor<'_>) -> Result<Tree, ParseF
 
     /// `do .. end`
     #[tactic(auto, unfolding(cr_readers::specs::Bodies::doblock))]
-    pub fn doblock(&self, cursor: &mut Cursor<'_>, within: Within) -> Result<Tree, ParseFault>
+    pub fn doblock(
+        &self,
+        cursor: &mut Cursor<'_>,
+        within: Within,
+    ) -> Result<Boxed<Tree>, ParseFault>
         requires { Nests self.now.turns self.now.deep (F.pre self.now.inside) (F.post self.now.inside) }
         ensures { Reads (bodies.doblock self.now.turns (read self.now.turns self.now.deep) within (state_of cursor.old)) result (state_of cursor.new) }
     {
@@ -68,12 +74,12 @@ impl<F: Fn(Global, usize, usize, Wanted, &mut Cursor<'_>) -> Result<Tree, ParseF
         let parameters = self.pars(cursor)?;
         let body = self.body(cursor, in_block(within))?;
         cursor.expect(TokenLook::KeywordEnd)?;
-        Ok(Tree::Block { parameters, body })
+        Ok(Boxed::new(self.alloc, Tree::Block { parameters, body })?)
     }
 
     /// `{ .. }`
     #[tactic(auto, unfolding(cr_readers::specs::Bodies::braces))]
-    fn braces(&self, cursor: &mut Cursor<'_>, within: Within) -> Result<Tree, ParseFault>
+    fn braces(&self, cursor: &mut Cursor<'_>, within: Within) -> Result<Boxed<Tree>, ParseFault>
         requires { Nests self.now.turns self.now.deep (F.pre self.now.inside) (F.post self.now.inside) }
         ensures { Reads (bodies.braces self.now.turns (read self.now.turns self.now.deep) within (state_of cursor.old)) result (state_of cursor.new) }
     {
@@ -82,11 +88,11 @@ impl<F: Fn(Global, usize, usize, Wanted, &mut Cursor<'_>) -> Result<Tree, ParseF
         let parameters = self.pars(cursor)?;
         let body = self.body(cursor, in_block(within))?;
         cursor.expect(TokenLook::CloseBrace)?;
-        Ok(Tree::Block { parameters, body })
+        Ok(Boxed::new(self.alloc, Tree::Block { parameters, body })?)
     }
 
     /// A block, which begins.
-    fn block(&self, cursor: &mut Cursor<'_>, within: Within) -> Result<Tree, ParseFault>
+    fn block(&self, cursor: &mut Cursor<'_>, within: Within) -> Result<Boxed<Tree>, ParseFault>
         requires { Nests self.now.turns self.now.deep (F.pre self.now.inside) (F.post self.now.inside) }
         ensures { Reads (reader.choose (reader.seen l.OpenBrace) (bodies.braces self.now.turns (read self.now.turns self.now.deep) within) (bodies.doblock self.now.turns (read self.now.turns self.now.deep) within) (state_of cursor.old)) result (state_of cursor.new) }
     {
@@ -110,7 +116,7 @@ impl<F: Fn(Global, usize, usize, Wanted, &mut Cursor<'_>) -> Result<Tree, ParseF
         if !begins_block(cursor, free) {
             return Ok(None);
         }
-        Ok(Some(Boxed::new(self.alloc, self.block(cursor, within)?)?))
+        Ok(Some(self.block(cursor, within)?))
     }
 
     /// A block without parameters.

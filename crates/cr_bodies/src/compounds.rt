@@ -41,7 +41,9 @@ fn first_word(clause: Clause) -> TokenLook
     }
 }
 
-impl<F: Fn(Global, usize, usize, Wanted, &mut Cursor<'_>) -> Result<Tree, ParseFault>> Parser<F> {
+impl<
+    F: Fn(Global, usize, usize, Wanted, &mut Cursor<'_>) -> Result<Boxed<Tree>, ParseFault>,
+> Parser<F> {
     /// A separator or `then`, with its place.
     pub fn then(&self, cursor: &mut Cursor<'_>) -> Result<u32, ParseFault>
         requires { Nests self.now.turns self.now.deep (F.pre self.now.inside) (F.post self.now.inside) }
@@ -69,33 +71,25 @@ impl<F: Fn(Global, usize, usize, Wanted, &mut Cursor<'_>) -> Result<Tree, ParseF
         Ok(Some(self.body(cursor, within)?))
     }
 
-    /// A part in a box.
-    fn boxed_part(&self, cursor: &mut Cursor<'_>, wanted: Wanted) -> Result<Boxed<Tree>, ParseFault>
-        requires nestable { Nestable wanted }
-        requires nests { Nests self.now.turns self.now.deep (F.pre self.now.inside) (F.post self.now.inside) }
-        ensures { Reads (part (read self.now.turns self.now.deep wanted) (state_of cursor.old)) result (state_of cursor.new) }
-    {
-        Ok(Boxed::new(self.alloc, self.part(cursor, wanted)?)?)
-    }
-
     /// `elsif`, its condition and its statements.
-    fn elsif(&self, cursor: &mut Cursor<'_>, within: Within) -> Result<Tree, ParseFault>
+    fn elsif(&self, cursor: &mut Cursor<'_>, within: Within) -> Result<Boxed<Tree>, ParseFault>
         requires { Nests self.now.turns self.now.deep (F.pre self.now.inside) (F.post self.now.inside) }
         ensures { Reads (compounds.elsif self.now.turns (read self.now.turns self.now.deep) within true (state_of cursor.old)) result (state_of cursor.new) }
     {
         let at = cursor.expect(TokenLook::Elsif)?;
-        let condition = self.boxed_part(cursor, Wanted::Simple(within))?;
+        let condition = self.part(cursor, Wanted::Simple(within))?;
         self.then(cursor)?;
         let body = self.body(cursor, within)?;
-        Ok(Tree::Branch {
+        let tree = Tree::Branch {
             at,
             condition,
             body,
-        })
+        };
+        Ok(Boxed::new(self.alloc, tree)?)
     }
 
     /// `in`, its types and its statements.
-    fn in_clause(&self, cursor: &mut Cursor<'_>, within: Within) -> Result<Tree, ParseFault>
+    fn in_clause(&self, cursor: &mut Cursor<'_>, within: Within) -> Result<Boxed<Tree>, ParseFault>
         requires { Nests self.now.turns self.now.deep (F.pre self.now.inside) (F.post self.now.inside) }
         ensures { Reads (compounds.in_clause self.now.turns (read self.now.turns self.now.deep) within true (state_of cursor.old)) result (state_of cursor.new) }
     {
@@ -103,12 +97,13 @@ impl<F: Fn(Global, usize, usize, Wanted, &mut Cursor<'_>) -> Result<Tree, ParseF
         let types = self.listed(cursor, Item::Part(Wanted::Written(false)))?;
         self.then(cursor)?;
         let body = self.body(cursor, within)?;
-        Ok(Tree::In { at, types, body })
+        let tree = Tree::In { at, types, body };
+        Ok(Boxed::new(self.alloc, tree)?)
     }
 
     /// One clause.
     #[tactic(auto, unfolding(crate::specs::Clauses::clause))]
-    fn clause(&self, cursor: &mut Cursor<'_>, clause: Clause) -> Result<Tree, ParseFault>
+    fn clause(&self, cursor: &mut Cursor<'_>, clause: Clause) -> Result<Boxed<Tree>, ParseFault>
         requires { Nests self.now.turns self.now.deep (F.pre self.now.inside) (F.post self.now.inside) }
         ensures { Reads (clauses.clause self.now.turns (read self.now.turns self.now.deep) clause (state_of cursor.old)) result (state_of cursor.new) }
     {
@@ -134,7 +129,7 @@ impl<F: Fn(Global, usize, usize, Wanted, &mut Cursor<'_>) -> Result<Tree, ParseF
             if !cursor.sees(first_word(clause)) {
                 return Ok(found);
             }
-            found.push(self.clause(cursor, clause)?)?;
+            found.push(self.clause(cursor, clause)?.into_inner())?;
         }
         Err(ParseFault::NoMemory)
     }
@@ -146,7 +141,7 @@ impl<F: Fn(Global, usize, usize, Wanted, &mut Cursor<'_>) -> Result<Tree, ParseF
         ensures { Reads (compounds.some_of self.now.turns (clauses.first_word clause) (clauses.clause self.now.turns (read self.now.turns self.now.deep) clause) (state_of cursor.old)) result (state_of cursor.new) }
     {
         let mut found = Items::new(self.alloc);
-        found.push(self.clause(cursor, clause)?)?;
+        found.push(self.clause(cursor, clause)?.into_inner())?;
         self.more_clauses(cursor, clause, found)
     }
 
@@ -177,21 +172,22 @@ impl<F: Fn(Global, usize, usize, Wanted, &mut Cursor<'_>) -> Result<Tree, ParseF
         at: u32,
         condition: Boxed<Tree>,
         body: Items<Tree>,
-    ) -> Result<Tree, ParseFault>
+    ) -> Result<Boxed<Tree>, ParseFault>
         requires { Nests self.now.turns self.now.deep (F.pre self.now.inside) (F.post self.now.inside) }
         ensures { Reads (clauses.behind_first self.now.turns (read self.now.turns self.now.deep) within unless at condition body (state_of cursor.old)) result (state_of cursor.new) }
     {
         let others = self.branches(cursor, within, unless)?;
         let otherwise = self.otherwise(cursor, within)?;
         cursor.expect(TokenLook::KeywordEnd)?;
-        Ok(Tree::If {
+        let tree = Tree::If {
             at,
             unless,
             condition,
             body,
             others,
             otherwise,
-        })
+        };
+        Ok(Boxed::new(self.alloc, tree)?)
     }
 
     /// `if` and `unless` up to their `end`.
@@ -202,13 +198,13 @@ impl<F: Fn(Global, usize, usize, Wanted, &mut Cursor<'_>) -> Result<Tree, ParseF
         within: Within,
         look: TokenLook,
         unless: bool,
-    ) -> Result<Tree, ParseFault>
+    ) -> Result<Boxed<Tree>, ParseFault>
         requires { Nests self.now.turns self.now.deep (F.pre self.now.inside) (F.post self.now.inside) }
         ensures { Reads (compounds.conditional self.now.turns (read self.now.turns self.now.deep) within true look unless (state_of cursor.old)) result (state_of cursor.new) }
     {
         let at = cursor.expect(look)?;
         cursor.grow(at)?;
-        let condition = self.boxed_part(cursor, Wanted::Simple(within))?;
+        let condition = self.part(cursor, Wanted::Simple(within))?;
         self.then(cursor)?;
         let body = self.body(cursor, within)?;
         self.behind_first(cursor, within, unless, at, condition, body)
@@ -221,22 +217,23 @@ impl<F: Fn(Global, usize, usize, Wanted, &mut Cursor<'_>) -> Result<Tree, ParseF
         within: Within,
         look: TokenLook,
         until: bool,
-    ) -> Result<Tree, ParseFault>
+    ) -> Result<Boxed<Tree>, ParseFault>
         requires { Nests self.now.turns self.now.deep (F.pre self.now.inside) (F.post self.now.inside) }
         ensures { Reads (compounds.looping self.now.turns (read self.now.turns self.now.deep) within true look until (state_of cursor.old)) result (state_of cursor.new) }
     {
         let at = cursor.expect(look)?;
         cursor.grow(at)?;
-        let condition = self.boxed_part(cursor, Wanted::Simple(in_loop(within)))?;
+        let condition = self.part(cursor, Wanted::Simple(in_loop(within)))?;
         cursor.expect(TokenLook::Newline)?;
         let body = self.body(cursor, in_loop(within))?;
         cursor.expect(TokenLook::KeywordEnd)?;
-        Ok(Tree::While {
+        let tree = Tree::While {
             at,
             until,
             condition,
             body,
-        })
+        };
+        Ok(Boxed::new(self.alloc, tree)?)
     }
 
     /// `case` behind its line.
@@ -247,25 +244,26 @@ impl<F: Fn(Global, usize, usize, Wanted, &mut Cursor<'_>) -> Result<Tree, ParseF
         within: Within,
         at: u32,
         value: Boxed<Tree>,
-    ) -> Result<Tree, ParseFault>
+    ) -> Result<Boxed<Tree>, ParseFault>
         requires { Nests self.now.turns self.now.deep (F.pre self.now.inside) (F.post self.now.inside) }
         ensures { Reads (clauses.behind_value self.now.turns (read self.now.turns self.now.deep) within at value (state_of cursor.old)) result (state_of cursor.new) }
     {
         separators(cursor, self.turns)?;
         let clauses = self.some_of(cursor, Clause::In(within))?;
         cursor.expect(TokenLook::KeywordEnd)?;
-        Ok(Tree::Case { at, value, clauses })
+        let tree = Tree::Case { at, value, clauses };
+        Ok(Boxed::new(self.alloc, tree)?)
     }
 
     /// `case` up to its `end`.
     #[tactic(auto, unfolding(crate::specs::Clauses::behind_value))]
-    pub fn cases(&self, cursor: &mut Cursor<'_>, within: Within) -> Result<Tree, ParseFault>
+    pub fn cases(&self, cursor: &mut Cursor<'_>, within: Within) -> Result<Boxed<Tree>, ParseFault>
         requires { Nests self.now.turns self.now.deep (F.pre self.now.inside) (F.post self.now.inside) }
         ensures { Reads (compounds.cases self.now.turns (read self.now.turns self.now.deep) within true (state_of cursor.old)) result (state_of cursor.new) }
     {
         let at = cursor.expect(TokenLook::Case)?;
         cursor.grow(at)?;
-        let value = self.boxed_part(cursor, Wanted::Simple(within))?;
+        let value = self.part(cursor, Wanted::Simple(within))?;
         cursor.expect(TokenLook::Newline)?;
         self.behind_value(cursor, within, at, value)
     }
@@ -278,18 +276,19 @@ impl<F: Fn(Global, usize, usize, Wanted, &mut Cursor<'_>) -> Result<Tree, ParseF
         within: Within,
         free: bool,
         at: u32,
-    ) -> Result<Tree, ParseFault>
+    ) -> Result<Boxed<Tree>, ParseFault>
         requires { Nests self.now.turns self.now.deep (F.pre self.now.inside) (F.post self.now.inside) }
         ensures { Reads (clauses.operations self.now.turns (read self.now.turns self.now.deep) within free at (state_of cursor.old)) result (state_of cursor.new) }
     {
         let clauses = self.some_of(cursor, Clause::When(within, free))?;
         let otherwise = self.otherwise(cursor, within)?;
         cursor.expect(TokenLook::KeywordEnd)?;
-        Ok(Tree::Select {
+        let tree = Tree::Select {
             at,
             clauses,
             otherwise,
-        })
+        };
+        Ok(Boxed::new(self.alloc, tree)?)
     }
 
     /// `select` up to its `end`; the flag tells whether a `do` is free in its clauses.
@@ -299,7 +298,7 @@ impl<F: Fn(Global, usize, usize, Wanted, &mut Cursor<'_>) -> Result<Tree, ParseF
         cursor: &mut Cursor<'_>,
         within: Within,
         free: bool,
-    ) -> Result<Tree, ParseFault>
+    ) -> Result<Boxed<Tree>, ParseFault>
         requires { Nests self.now.turns self.now.deep (F.pre self.now.inside) (F.post self.now.inside) }
         ensures { Reads (compounds.select self.now.turns (read self.now.turns self.now.deep) within free (state_of cursor.old)) result (state_of cursor.new) }
     {

@@ -10,6 +10,3 @@ mod types;
 
 pub use item::{Clause, Item, Lines};
 pub use parser::Parser;
-
-#[cfg(test)]
-mod tests;

@@ -37,9 +37,11 @@ fn begins_line(cursor: &Cursor<'_>, lines: Lines) -> bool
     }
 }
 
-impl<F: Fn(Global, usize, usize, Wanted, &mut Cursor<'_>) -> Result<Tree, ParseFault>> Parser<F> {
+impl<
+    F: Fn(Global, usize, usize, Wanted, &mut Cursor<'_>) -> Result<Boxed<Tree>, ParseFault>,
+> Parser<F> {
     /// One of the lines.
-    fn statement(&self, cursor: &mut Cursor<'_>, lines: Lines) -> Result<Tree, ParseFault>
+    fn statement(&self, cursor: &mut Cursor<'_>, lines: Lines) -> Result<Boxed<Tree>, ParseFault>
         requires { Nests self.now.turns self.now.deep (F.pre self.now.inside) (F.post self.now.inside) }
         ensures { Reads (items.statement (read self.now.turns self.now.deep) lines (state_of cursor.old)) result (state_of cursor.new) }
     {
@@ -77,7 +79,7 @@ impl<F: Fn(Global, usize, usize, Wanted, &mut Cursor<'_>) -> Result<Tree, ParseF
             if !begins_line(cursor, lines) {
                 return Ok(found);
             }
-            found.push(self.statement(cursor, lines)?)?;
+            found.push(self.statement(cursor, lines)?.into_inner())?;
             if !self.behind_line(cursor)? {
                 return Ok(found);
             }
@@ -97,23 +99,24 @@ impl<F: Fn(Global, usize, usize, Wanted, &mut Cursor<'_>) -> Result<Tree, ParseF
 
     /// A parameter of a block.
     #[tactic(auto, unfolding(cr_readers::specs::Bodies::block_parameter))]
-    fn block_parameter(&self, cursor: &mut Cursor<'_>) -> Result<Tree, ParseFault>
+    fn block_parameter(&self, cursor: &mut Cursor<'_>) -> Result<Boxed<Tree>, ParseFault>
         requires { Nests self.now.turns self.now.deep (F.pre self.now.inside) (F.post self.now.inside) }
         ensures { Reads (bodies.block_parameter self.now.turns (read self.now.turns self.now.deep) (state_of cursor.old)) result (state_of cursor.new) }
     {
         let name = ident(self.alloc, cursor)?;
         cursor.grow(name.at)?;
-        Ok(Tree::Parameter {
+        let tree = Tree::Parameter {
             at: name.at,
             instance: false,
             name: name.text,
             restriction: None,
-        })
+        };
+        Ok(Boxed::new(self.alloc, tree)?)
     }
 
     /// A parameter of a block, as a part.
     #[tactic(auto, unfolding(cr_readers::specs::Reader::part, cr_readers::specs::Cursor::entered, cr_readers::specs::Cursor::left_part))]
-    fn block_parameter_part(&self, cursor: &mut Cursor<'_>) -> Result<Tree, ParseFault>
+    fn block_parameter_part(&self, cursor: &mut Cursor<'_>) -> Result<Boxed<Tree>, ParseFault>
         requires { Nests self.now.turns self.now.deep (F.pre self.now.inside) (F.post self.now.inside) }
         ensures { Reads (reader.part (bodies.block_parameter self.now.turns (read self.now.turns self.now.deep)) (state_of cursor.old)) result (state_of cursor.new) }
     {
@@ -131,20 +134,21 @@ impl<F: Fn(Global, usize, usize, Wanted, &mut Cursor<'_>) -> Result<Tree, ParseF
         wanted: Wanted,
         within: Within,
         free: bool,
-    ) -> Result<Tree, ParseFault>
+    ) -> Result<Boxed<Tree>, ParseFault>
         requires nestable { Nestable wanted }
         requires nests { Nests self.now.turns self.now.deep (F.pre self.now.inside) (F.post self.now.inside) }
         ensures { Reads (primaries.pair self.now.turns (read self.now.turns self.now.deep) within free (reader.part ((read self.now.turns self.now.deep) wanted)) (state_of cursor.old)) result (state_of cursor.new) }
     {
-        let key = Boxed::new(self.alloc, self.part(cursor, wanted)?)?;
+        let key = self.part(cursor, wanted)?;
         cursor.expect(TokenLook::Arrow)?;
         separators(cursor, self.turns)?;
-        let value = Boxed::new(self.alloc, self.part(cursor, wanted)?)?;
-        Ok(Tree::Pair { key, value })
+        let value = self.part(cursor, wanted)?;
+        let tree = Tree::Pair { key, value };
+        Ok(Boxed::new(self.alloc, tree)?)
     }
 
     /// What stands between commas.
-    fn item(&self, cursor: &mut Cursor<'_>, item: Item) -> Result<Tree, ParseFault>
+    fn item(&self, cursor: &mut Cursor<'_>, item: Item) -> Result<Boxed<Tree>, ParseFault>
         requires nestable { items.NestableItem item }
         requires nests { Nests self.now.turns self.now.deep (F.pre self.now.inside) (F.post self.now.inside) }
         ensures { Reads (items.item self.now.turns (read self.now.turns self.now.deep) item (state_of cursor.old)) result (state_of cursor.new) }
@@ -158,7 +162,7 @@ impl<F: Fn(Global, usize, usize, Wanted, &mut Cursor<'_>) -> Result<Tree, ParseF
 
     /// A comma, and what stands behind it.
     #[tactic(auto, unfolding(crate::specs::Items::behind_comma))]
-    fn item_behind(&self, cursor: &mut Cursor<'_>, item: Item) -> Result<Tree, ParseFault>
+    fn item_behind(&self, cursor: &mut Cursor<'_>, item: Item) -> Result<Boxed<Tree>, ParseFault>
         requires nestable { items.NestableItem item }
         requires nests { Nests self.now.turns self.now.deep (F.pre self.now.inside) (F.post self.now.inside) }
         ensures { Reads ((items.behind_comma self.now.turns (read self.now.turns self.now.deep) item) (state_of cursor.old)) result (state_of cursor.new) }
@@ -184,7 +188,7 @@ impl<F: Fn(Global, usize, usize, Wanted, &mut Cursor<'_>) -> Result<Tree, ParseF
             if !cursor.sees(TokenLook::Comma) {
                 return Ok(found);
             }
-            found.push(self.item_behind(cursor, item)?)?;
+            found.push(self.item_behind(cursor, item)?.into_inner())?;
         }
         Err(ParseFault::NoMemory)
     }
@@ -197,7 +201,7 @@ impl<F: Fn(Global, usize, usize, Wanted, &mut Cursor<'_>) -> Result<Tree, ParseF
         ensures { Reads (lists.listed self.now.turns (items.item self.now.turns (read self.now.turns self.now.deep) item) (state_of cursor.old)) result (state_of cursor.new) }
     {
         let mut found = Items::new(self.alloc);
-        found.push(self.item(cursor, item)?)?;
+        found.push(self.item(cursor, item)?.into_inner())?;
         self.items(cursor, item, found)
     }
 }

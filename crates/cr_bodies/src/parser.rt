@@ -8,6 +8,7 @@ ghost use Rattle.cr_bodies.specs.Nests.{Nests, Nestable};
 
 use cr_grammar::{Tree, Wanted};
 use cr_readers::{Cursor, ParseFault};
+use sqlite_items::Boxed;
 use std::alloc::Global;
 
 /// What reads a construct, and how deep it may go.
@@ -22,9 +23,11 @@ pub struct Parser<F> {
     pub inside: F,
 }
 
-impl<F: Fn(Global, usize, usize, Wanted, &mut Cursor<'_>) -> Result<Tree, ParseFault>> Parser<F> {
+impl<
+    F: Fn(Global, usize, usize, Wanted, &mut Cursor<'_>) -> Result<Boxed<Tree>, ParseFault>,
+> Parser<F> {
     /// A construct that stands in another.
-    pub fn read(&self, cursor: &mut Cursor<'_>, wanted: Wanted) -> Result<Tree, ParseFault>
+    pub fn read(&self, cursor: &mut Cursor<'_>, wanted: Wanted) -> Result<Boxed<Tree>, ParseFault>
         requires nestable { Nestable wanted }
         requires nests { Nests self.now.turns self.now.deep (F.pre self.now.inside) (F.post self.now.inside) }
         ensures { Reads (read self.now.turns self.now.deep wanted (state_of cursor.old)) result (state_of cursor.new) }
@@ -34,7 +37,7 @@ impl<F: Fn(Global, usize, usize, Wanted, &mut Cursor<'_>) -> Result<Tree, ParseF
 
     /// A part of the node that was begun last.
     #[tactic(auto, unfolding(cr_readers::specs::Reader::part, cr_readers::specs::Cursor::entered, cr_readers::specs::Cursor::left_part))]
-    pub fn part(&self, cursor: &mut Cursor<'_>, wanted: Wanted) -> Result<Tree, ParseFault>
+    pub fn part(&self, cursor: &mut Cursor<'_>, wanted: Wanted) -> Result<Boxed<Tree>, ParseFault>
         requires nestable { Nestable wanted }
         requires nests { Nests self.now.turns self.now.deep (F.pre self.now.inside) (F.post self.now.inside) }
         ensures { Reads (part (read self.now.turns self.now.deep wanted) (state_of cursor.old)) result (state_of cursor.new) }
@@ -47,7 +50,7 @@ impl<F: Fn(Global, usize, usize, Wanted, &mut Cursor<'_>) -> Result<Tree, ParseF
 
     /// A part that stands beside what was read last.
     #[tactic(auto, unfolding(cr_readers::specs::Reader::beside, cr_readers::specs::Cursor::left_beside))]
-    pub fn beside(&self, cursor: &mut Cursor<'_>, wanted: Wanted) -> Result<Tree, ParseFault>
+    pub fn beside(&self, cursor: &mut Cursor<'_>, wanted: Wanted) -> Result<Boxed<Tree>, ParseFault>
         requires nestable { Nestable wanted }
         requires nests { Nests self.now.turns self.now.deep (F.pre self.now.inside) (F.post self.now.inside) }
         ensures { Reads (beside ((read self.now.turns self.now.deep) wanted) (state_of cursor.old)) result (state_of cursor.new) }

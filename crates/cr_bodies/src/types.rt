@@ -19,7 +19,7 @@ use cr_grammar::{Atom, Path, Tree, Wanted, Word};
 use cr_readers::{Cursor, ParseFault};
 use cr_syntax::{TokenLook, TokenText};
 use cr_words::{constant, separators, spelled};
-use sqlite_items::Items;
+use sqlite_items::{Boxed, Items};
 use std::alloc::Global;
 
 /// `::` and a name.
@@ -132,7 +132,9 @@ fn add_atoms(alloc: Global, trees: &mut Items<Tree>, atom: Atom) -> Result<(), P
     Ok(())
 }
 
-impl<F: Fn(Global, usize, usize, Wanted, &mut Cursor<'_>) -> Result<Tree, ParseFault>> Parser<F> {
+impl<
+    F: Fn(Global, usize, usize, Wanted, &mut Cursor<'_>) -> Result<Boxed<Tree>, ParseFault>,
+> Parser<F> {
     /// Types in parentheses.
     fn types_enclosed(&self, cursor: &mut Cursor<'_>) -> Result<Items<Tree>, ParseFault>
         requires { Nests self.now.turns self.now.deep (F.pre self.now.inside) (F.post self.now.inside) }
@@ -237,19 +239,24 @@ impl<F: Fn(Global, usize, usize, Wanted, &mut Cursor<'_>) -> Result<Tree, ParseF
         cursor: &mut Cursor<'_>,
         with_arguments: bool,
         first: Atom,
-    ) -> Result<Tree, ParseFault>
+    ) -> Result<Boxed<Tree>, ParseFault>
         requires { Nests self.now.turns self.now.deep (F.pre self.now.inside) (F.post self.now.inside) }
         ensures { Reads (atoms.type_behind self.now.turns (read self.now.turns self.now.deep) with_arguments first (state_of cursor.old)) result (state_of cursor.new) }
     {
         let mut found = Items::new(self.alloc);
         add_atoms(self.alloc, &mut found, first)?;
         let atoms = self.more_atoms(cursor, with_arguments, found)?;
-        Ok(Tree::Union { atoms })
+        let tree = Tree::Union { atoms };
+        Ok(Boxed::new(self.alloc, tree)?)
     }
 
     /// A type.
     #[tactic(auto, unfolding(crate::specs::Atoms::type_atom, crate::specs::Atoms::behind_pipe, crate::specs::Atoms::type_behind))]
-    pub fn written(&self, cursor: &mut Cursor<'_>, with_arguments: bool) -> Result<Tree, ParseFault>
+    pub fn written(
+        &self,
+        cursor: &mut Cursor<'_>,
+        with_arguments: bool,
+    ) -> Result<Boxed<Tree>, ParseFault>
         requires { Nests self.now.turns self.now.deep (F.pre self.now.inside) (F.post self.now.inside) }
         ensures { Reads (types.written self.now.turns (read self.now.turns self.now.deep) with_arguments (state_of cursor.old)) result (state_of cursor.new) }
     {

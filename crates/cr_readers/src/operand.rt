@@ -1,5 +1,5 @@
 use cr_grammar::{Binary, Tree, Word};
-use sqlite_items::Items;
+use sqlite_items::{Boxed, Items};
 
 /// A postfix as it is read, apart by what it may become: a name or a link alone may be assigned, or take arguments without
 /// parentheses, and `c.send(v)` may be an operation of `select`.
@@ -8,9 +8,9 @@ pub enum Operand {
     /// A name alone.
     Name(Word),
     /// `.x` behind a receiver.
-    Field(Tree, Word),
+    Field(Boxed<Tree>, Word),
     /// `[a]` behind a receiver, and its place.
-    Element(u32, Tree, Items<Tree>),
+    Element(u32, Boxed<Tree>, Items<Tree>),
     /// `@x`
     Variable(Word),
     /// `yield` without parentheses, by its place.
@@ -18,8 +18,8 @@ pub enum Operand {
     /// `super` without parentheses, by its place.
     Above(u32),
     /// `.f(v)` without a block, with the name, the receiver and the argument.
-    Passing(Word, Tree, Tree),
-    Whole(Tree),
+    Passing(Word, Boxed<Tree>, Boxed<Tree>),
+    Whole(Boxed<Tree>),
 }
 
 /// An operator between operands, its place, and whether it is a spaced `-`.

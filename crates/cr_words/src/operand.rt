@@ -27,65 +27,67 @@ fn call(receiver: Option<Boxed<Tree>>, name: Word, arguments: Items<Tree>) -> Tr
 /// # Errors
 ///
 /// `NoMemory` where memory runs out.
-pub fn whole(alloc: Global, operand: Operand) -> Result<Tree, ParseFault>
+pub fn whole(alloc: Global, operand: Operand) -> Result<Boxed<Tree>, ParseFault>
     ensures { Gives (spec.whole operand) result }
 {
-    match operand {
-        Operand::Name(name) => Ok(call(None, name, Items::new(alloc))),
-        Operand::Field(receiver, name) => {
-            let receiver = Boxed::new(alloc, receiver)?;
-            Ok(call(Some(receiver), name, Items::new(alloc)))
-        }
-        Operand::Element(at, receiver, arguments) => Ok(Tree::Index {
+    let tree = match operand {
+        Operand::Name(name) => call(None, name, Items::new(alloc)),
+        Operand::Field(receiver, name) => call(Some(receiver), name, Items::new(alloc)),
+        Operand::Element(at, receiver, arguments) => Tree::Index {
             at,
-            receiver: Boxed::new(alloc, receiver)?,
+            receiver,
             arguments,
             question: false,
-        }),
-        Operand::Variable(name) => Ok(Tree::InstanceVariable {
+        },
+        Operand::Variable(name) => Tree::InstanceVariable {
             at: name.at,
             name: name.text,
-        }),
-        Operand::Yielding(at) => Ok(Tree::Yield {
+        },
+        Operand::Yielding(at) => Tree::Yield {
             at,
             arguments: Items::new(alloc),
-        }),
-        Operand::Above(at) => Ok(Tree::BareSuper { at }),
+        },
+        Operand::Above(at) => Tree::BareSuper { at },
         Operand::Passing(name, receiver, value) => {
-            let receiver = Boxed::new(alloc, receiver)?;
             let mut arguments = Items::new(alloc);
-            arguments.push(value)?;
-            Ok(call(Some(receiver), name, arguments))
+            arguments.push(value.into_inner())?;
+            call(Some(receiver), name, arguments)
         }
-        Operand::Whole(tree) => Ok(tree),
-    }
+        Operand::Whole(tree) => return Ok(tree),
+    };
+    Ok(Boxed::new(alloc, tree)?)
 }
 
 /// What a name becomes with the arguments in parentheses and the block that follow it.
+///
+/// # Errors
+///
+/// `NoMemory` where memory runs out.
 pub fn named(
     alloc: Global,
     name: Word,
     arguments: Option<Items<Tree>>,
     block: Option<Boxed<Tree>>,
-) -> Operand
-    ensures { result ≡ spec.named name arguments block }
+) -> Result<Operand, ParseFault>
+    ensures { Gives (spec.named name arguments block) result }
 {
     let arguments = match arguments {
         Some(arguments) => arguments,
         None => {
             if block.is_none() {
-                return Operand::Name(name);
+                return Ok(Operand::Name(name));
             }
             Items::new(alloc)
         }
     };
-    Operand::Whole(Tree::Call {
+    let tree = Tree::Call {
         at: name.at,
         receiver: None,
         name: name.text,
         arguments,
         block,
-    })
+    };
+    Ok(Operand::Whole(Boxed::new(alloc, tree)?))
 }
 
 /// What `.f` behind a receiver becomes with the arguments in parentheses and the block that follow it.
@@ -95,7 +97,7 @@ pub fn named(
 /// `NoMemory` where memory runs out.
 pub fn linked(
     alloc: Global,
-    receiver: Tree,
+    receiver: Boxed<Tree>,
     name: Word,
     arguments: Option<Items<Tree>>,
     block: Option<Boxed<Tree>>,
@@ -113,16 +115,18 @@ pub fn linked(
     };
     if block.is_none() && arguments.len() == 1 {
         if let Some(value) = arguments.pop() {
+            let value = Boxed::new(alloc, value)?;
             return Ok(Operand::Passing(name, receiver, value));
         }
     }
-    Ok(Operand::Whole(Tree::Call {
+    let tree = Tree::Call {
         at: name.at,
-        receiver: Some(Boxed::new(alloc, receiver)?),
+        receiver: Some(receiver),
         name: name.text,
         arguments,
         block,
-    }))
+    };
+    Ok(Operand::Whole(Boxed::new(alloc, tree)?))
 }
 
 /// What `[a]` behind a receiver becomes, with the `?` that may follow.
@@ -133,39 +137,58 @@ pub fn linked(
 pub fn indexed(
     alloc: Global,
     at: u32,
-    receiver: Tree,
+    receiver: Boxed<Tree>,
     arguments: Items<Tree>,
     question: Option<u32>,
 ) -> Result<Operand, ParseFault>
     ensures { Gives (spec.indexed at receiver arguments question) result }
 {
-    match question {
-        None => Ok(Operand::Element(at, receiver, arguments)),
-        Some(_) => Ok(Operand::Whole(Tree::Index {
-            at,
-            receiver: Boxed::new(alloc, receiver)?,
-            arguments,
-            question: true,
-        })),
+    if question.is_none() {
+        return Ok(Operand::Element(at, receiver, arguments));
     }
+    let tree = Tree::Index {
+        at,
+        receiver,
+        arguments,
+        question: true,
+    };
+    Ok(Operand::Whole(Boxed::new(alloc, tree)?))
 }
 
 /// What `yield` becomes with the arguments in parentheses that follow it.
-pub fn yielded(at: u32, arguments: Option<Items<Tree>>) -> Operand
-    ensures { result ≡ spec.yielded at arguments }
+///
+/// # Errors
+///
+/// `NoMemory` where memory runs out.
+pub fn yielded(
+    alloc: Global,
+    at: u32,
+    arguments: Option<Items<Tree>>,
+) -> Result<Operand, ParseFault>
+    ensures { Gives (spec.yielded at arguments) result }
 {
     match arguments {
-        None => Operand::Yielding(at),
-        Some(arguments) => Operand::Whole(Tree::Yield { at, arguments }),
+        None => Ok(Operand::Yielding(at)),
+        Some(arguments) => {
+            let tree = Tree::Yield { at, arguments };
+            Ok(Operand::Whole(Boxed::new(alloc, tree)?))
+        }
     }
 }
 
 /// What `super` becomes with the arguments in parentheses that follow it.
-pub fn above(at: u32, arguments: Option<Items<Tree>>) -> Operand
-    ensures { result ≡ spec.above at arguments }
+///
+/// # Errors
+///
+/// `NoMemory` where memory runs out.
+pub fn above(alloc: Global, at: u32, arguments: Option<Items<Tree>>) -> Result<Operand, ParseFault>
+    ensures { Gives (spec.above at arguments) result }
 {
     match arguments {
-        None => Operand::Above(at),
-        Some(arguments) => Operand::Whole(Tree::Super { at, arguments }),
+        None => Ok(Operand::Above(at)),
+        Some(arguments) => {
+            let tree = Tree::Super { at, arguments };
+            Ok(Operand::Whole(Boxed::new(alloc, tree)?))
+        }
     }
 }

@@ -10,6 +10,7 @@ ghost use Rattle.cr_words.specs.Gives.{Gives, GivesAt};
 use cr_grammar::{Tree, Word};
 use cr_readers::{Cursor, ParseFault};
 use cr_syntax::{Token, TokenKind, TokenText};
+use sqlite_items::Boxed;
 use std::alloc::Global;
 
 /// This text as a token holds it.
@@ -189,19 +190,19 @@ pub fn exactly_ident(cursor: &mut Cursor<'_>, text: &str) -> Result<u32, ParseFa
 ///
 /// # Errors
 ///
-/// `Unexpected` where no number comes.
-pub fn number(cursor: &mut Cursor<'_>) -> Result<(u32, Tree), ParseFault>
+/// `Unexpected` where no number comes, `NoMemory` where memory runs out.
+pub fn number(alloc: Global, cursor: &mut Cursor<'_>) -> Result<(u32, Boxed<Tree>), ParseFault>
     ensures { Reads (spec.number (state_of cursor.old)) result (state_of cursor.new) }
 {
     if let Some(token) = cursor.token() {
         let at = token.span.first;
         if let TokenKind::Int32(value) = token.kind {
             cursor.take();
-            return Ok((at, Tree::Int32 { at, value }));
+            return Ok((at, Boxed::new(alloc, Tree::Int32 { at, value })?));
         }
         if let TokenKind::Int64(value) = token.kind {
             cursor.take();
-            return Ok((at, Tree::Int64 { at, value }));
+            return Ok((at, Boxed::new(alloc, Tree::Int64 { at, value })?));
         }
     }
     Err(cursor.refuse())

@@ -1,0 +1,5 @@
+-- What contracts cite.
+pub mod Classes
+pub mod Lists
+pub mod Methods
+pub mod Names

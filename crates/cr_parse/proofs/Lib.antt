@@ -1,0 +1,6 @@
+pub mod Called
+pub mod Heads
+pub mod Levels
+pub mod Parts
+pub mod Paths
+pub mod Rest

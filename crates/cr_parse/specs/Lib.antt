@@ -1,0 +1,7 @@
+pub mod Levels
+pub mod Links
+pub mod Literals
+pub mod Parts
+pub mod Primaries
+pub mod Rest
+pub mod Targets
