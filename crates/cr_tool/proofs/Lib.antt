@@ -7,6 +7,7 @@ pub mod Places
 pub mod Closings
 pub mod EndsOfRuns
 pub mod Exactness
+pub mod Refusals
 pub mod Reports
 pub mod CommandLines
 pub mod OneProgram

@@ -17,7 +17,7 @@ use Rattle.cr_tool.specs.Words.{IsRunLine}
 use Rattle.cr_tool.specs.State.{State}
 use Rattle.cr_tool.specs.Endings.{closing}
 use Rattle.cr_tool.specs.Closed.{text_by}
-use Rattle.cr_tool.specs.Answer.{Reading, Writing, Writes, CauseAfter, IsReport}
+use Rattle.cr_tool.specs.Answer.{Reading, Writing, Writes, CauseAfter, IsReport, RefusalsAreExact}
 use Rattle.cr_tool.specs.Opened.{LineIs, IsProgram}
 use Rattle.cr_tool.specs.Ended.{IsEndOfRun}
 use Rattle.cr_tool.specs.Reported.{IsEnded, IsFinished}
@@ -81,15 +81,15 @@ ended_before source written faults ended is none =
       cause = λ budget enough. rw (is, none) (inl (tt, record { no_history = refl; no_errors = refl; no_output = appends_none written }));
     }
 
-pub reported : (budget : ℕ) (source : Reading) (out err : Writing) (ended : Ended) (report : Report) → 3 * most_lines ≤ budget → IsEnded source out ended → IsFinished ended err report → IsReport budget source out err report
-reported budget source out err ended report enough is finished =
+pub reported : RefusalsAreExact → (budget : ℕ) (source : Reading) (out err : Writing) (ended : Ended) (report : Report) → 3 * most_lines ≤ budget → IsEnded source out ended → IsFinished ended err report → IsReport budget source out err report
+reported law budget source out err ended report enough is finished =
     let cause = is.cause budget enough in
     record {
       bytes = is.bytes;
       told = is.told;
       errors = [];
       cause = rw (finished.ending_is, finished.history_is) cause;
-      exact = rw finished.ending_is (exact ended.closed.ending is.bytes budget source out ended.history.entries [] cause);
+      exact = rw finished.ending_is (exact law ended.closed.ending is.bytes budget source out ended.history.entries [] cause);
       status = finished.status;
       errors_written = finished.line is.bytes is.line;
     }

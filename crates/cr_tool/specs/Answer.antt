@@ -1,12 +1,21 @@
 -- What a command answers, and why.
-use Rattle.std.specs.Prelude.{◌≡◌, ◌⊎◌, ℕ, ◌<◌, ◌≤◌, Bool, true, List, [], ◌++◌, length, Option, Some, IfSome}
+use Rattle.std.specs.Prelude.{◌≡◌, ◌⊎◌, ℕ, ◌<◌, ◌≤◌, Bool, true, List, [], ◌++◌, length, Option, None, Some, IfSome}
 use Rattle.cr_io.specs.Faults.{Rose}
 use Rattle.cr_io.specs.Sink.{Appends, AppendsFront}
+use Rattle.cr_grammar.specs.declared.tree.Tree.{Tree}
+use Rattle.cr_source.specs.declared.fault.Code.{Code as SourceCode}
+use Rattle.cr_source.specs.declared.fault.SourceFault.{SourceFault}
+use Rattle.cr_source.specs.declared.fault.SourceFault.TheVariants as front
+use Rattle.cr_source.specs.Source.{IsRefused, IsSource, lexical}
+use Rattle.cr_syntax.specs.declared.fault.LexFault.{LexFault}
+use Rattle.cr_syntax.specs.Faults.{lex_fault}
 use Rattle.cr_schedule.specs.declared.entry.Entry.{Entry}
 use Rattle.cr_schedule.specs.Entry.{spent}
 use Rattle.cr_tool.specs.declared.ending.Ending.{Ending}
 use Rattle.cr_tool.specs.declared.ending.Ending.TheVariants as ending
-use Rattle.cr_tool.specs.declared.ending.Code.TheVariants.{NotBuilt}
+use Rattle.cr_tool.specs.declared.ending.Code.{Code}
+use Rattle.cr_tool.specs.declared.ending.Code.TheVariants.{Source, NotBuilt}
+use Rattle.cr_tool.specs.declared.ending.Refusal.{Refusal}
 use Rattle.cr_syntax.specs.declared.token.TheConstants.{MAX_SOURCE_BYTES}
 use Rattle.cr_tool.specs.declared.ending.Which.TheVariants as which
 use Rattle.cr_tool.specs.declared.report.Report.{Report}
@@ -51,8 +60,36 @@ pub record Writes (sink : Writing) (text : List ℕ) : Type 0 where
   pub whole : (FailsWriting sink → ⊥) → Appends sink.written text sink.written'
   pub front : AppendsFront sink.written text sink.written'
 
+-- the ending of a source that is no program
+abbrev pub refused : SourceCode → ℕ → Ending
+refused code place = ending.Refused (record { code = Source code; at = Some place })
+
+-- the ending of a program that is not taken yet
 abbrev pub unbuilt : ℕ → Ending
 unbuilt place = ending.Refused (record { code = NotBuilt; at = Some place })
+
+-- Why a source is refused at a place, where `sums` is the first byte at which it is no list of sums: it is no program, or it is one
+-- and refused there.
+abbrev pub Breaks : List ℕ → ℕ → Code → Option ℕ → Type 0
+Breaks bytes sums (Source code) (Some at) = IsRefused bytes code at
+Breaks bytes sums NotBuilt (Some at) = (at ≡ sums) × ((x : Tree) × IsSource bytes x)
+Breaks bytes sums code None = ⊥
+
+-- The source is no list of sums, and is refused so.
+pub record HasRefusal (bytes : List ℕ) (refusal : Refusal) : Type 0 where
+  pub sums : ℕ
+  pub unbuilt : IsUnbuilt bytes sums
+  pub breaks : Breaks bytes sums refusal.code refusal.at
+
+-- the ending of a source that has no tree
+abbrev pub no_program : SourceFault → Ending
+no_program (front.Refused refusal) = refused refusal.code refusal.at
+no_program front.NoMemory = ending.NoMemory
+
+-- A source that is no list of sums is refused for the fault of its tokens, where they have one, and as not built yet, where it is a program.
+pub record RefusalsAreExact : Type 0 where
+  pub tokens : (bytes : List ℕ) (refusal : Refusal) (f : LexFault) → HasRefusal bytes refusal → lex_fault bytes f → ending.Refused refusal ≡ no_program (lexical f)
+  pub program : (bytes : List ℕ) (refusal : Refusal) (place : ℕ) (x : Tree) → HasRefusal bytes refusal → IsUnbuilt bytes place → IsSource bytes x → ending.Refused refusal ≡ unbuilt place
 
 -- Nothing was run and nothing written.
 pub record IsIdle (history : List Entry) (errors : List ℕ) (out : Writing) : Type 0 where
@@ -74,7 +111,7 @@ pub record IsRun (bytes : List ℕ) (source : Reading) (budget : ℕ) (history :
 
 -- The cause of an ending that comes before a run, for a source with these bytes.
 abbrev pub CauseBefore : Ending → List ℕ → Reading → Type 0
-CauseBefore (ending.Refused refusal) bytes source = (place : ℕ) × (ending.Refused refusal ≡ unbuilt place) × IsUnbuilt bytes place × IsWhole bytes source
+CauseBefore (ending.Refused refusal) bytes source = HasRefusal bytes refusal × IsWhole bytes source
 CauseBefore ending.SourceTooLong bytes source = source_limit < length bytes
 CauseBefore (ending.ReadFault place) bytes source = (place ≡ which.Source) × FailsReading source
 CauseBefore ending.NoMemory bytes source = Unit {0}
@@ -97,7 +134,10 @@ Cause e bytes budget source out history errors =
 pub record IsExact (answer : Ending) (bytes : List ℕ) (source : Reading) (out : Writing) : Type 0 where
   pub accepted : (lines : List Line) → Spells bytes lines → length bytes ≤ source_limit → (FailsReading source → ⊥) → (FailsWriting out → ⊥)
       → (answer ≡ ending.Finished) ⊎ (answer ≡ ending.NoMemory)
-  pub refused : (place : ℕ) → IsUnbuilt bytes place → length bytes ≤ source_limit → (FailsReading source → ⊥)
+  -- A source that is no list of sums is refused: for the fault of its tokens where it has none, and as not built yet where it is a program.
+  pub fault_of_tokens : (place : ℕ) (f : LexFault) → IsUnbuilt bytes place → lex_fault bytes f → length bytes ≤ source_limit → (FailsReading source → ⊥)
+      → (answer ≡ no_program (lexical f)) ⊎ (answer ≡ ending.NoMemory)
+  pub not_built : (place : ℕ) (x : Tree) → IsUnbuilt bytes place → IsSource bytes x → length bytes ≤ source_limit → (FailsReading source → ⊥)
       → (answer ≡ unbuilt place) ⊎ (answer ≡ ending.NoMemory)
   pub too_long : source_limit < length bytes → (FailsReading source → ⊥) → (answer ≡ ending.SourceTooLong) ⊎ (answer ≡ ending.NoMemory)
 

@@ -1,6 +1,8 @@
 -- The table of endings: the status and the closing line of each.
 use Rattle.std.specs.Prelude.{ℕ, ◌+◌, ◌==◌, if◌then◌else◌, List, [], ◌∷◌, ◌++◌, take, Option, Some, None, codes}
 use Rattle.std.specs.Fmt.{decimal}
+use Rattle.cr_source.specs.declared.fault.Code.{Code as SourceCode}
+use Rattle.cr_source.specs.declared.fault.Code.TheVariants as source
 use Rattle.cr_tool.specs.declared.ending.Ending.{Ending}
 use Rattle.cr_tool.specs.declared.ending.Ending.TheVariants as ending
 use Rattle.cr_tool.specs.declared.ending.Refusal.{Refusal}
@@ -32,7 +34,18 @@ place_text source None = []
 place_text source (Some at) = let place = place_of source at in
     decimal place.0 ++ codes ":" ++ decimal place.1 ++ codes ": "
 
+abbrev pub source_text : SourceCode → List ℕ
+source_text source.NotUtf8 = codes "L1 not UTF-8"
+source_text source.BadByte = codes "L2 unexpected byte"
+source_text source.OpenString = codes "L3 string not closed"
+source_text source.BadEscape = codes "L4 bad escape"
+source_text source.BadNumber = codes "L5 bad number"
+source_text source.Unexpected = codes "P1 unexpected token"
+source_text source.TooDeep = codes "P2 nested too deeply"
+source_text source.TooManyNodes = codes "P3 too many nodes"
+
 abbrev pub code_text : Code → List ℕ
+code_text (code.Source of_source) = source_text of_source
 code_text code.NotBuilt = codes "X0 not built yet"
 
 abbrev pub which_text : Which → List ℕ

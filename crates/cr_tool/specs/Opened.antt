@@ -5,9 +5,10 @@ use Rattle.cr_tool.specs.declared.ending.Ending.{Ending}
 use Rattle.cr_tool.specs.declared.ending.Ending.TheVariants as ending
 use Rattle.cr_tool.specs.declared.closed.Closed.{Closed}
 use Rattle.cr_tool.specs.declared.sums.Line.{Line}
-use Rattle.cr_tool.specs.Sums.{Spells, IsUnbuilt}
+use Rattle.cr_tool.specs.Sums.{Spells}
 use Rattle.cr_tool.specs.Endings.{refusal_line}
-use Rattle.cr_tool.specs.Answer.{Reading, IsWhole, CauseBefore, unbuilt}
+use Rattle.cr_tool.specs.declared.ending.Refusal.{Refusal}
+use Rattle.cr_tool.specs.Answer.{Reading, IsWhole, CauseBefore, HasRefusal}
 
 -- these are the bytes that the source tells, if it tells them
 abbrev pub Tells : Option (List ℕ) → List ℕ → Type 0
@@ -41,8 +42,19 @@ abbrev pub IsRead : Reading → Result (Vec ℕ Global) Closed → Type 0
 IsRead source (Ok bytes) = Tells source.left bytes.items × IsWhole bytes.items source
 IsRead source (Err closed) = IsClosed source closed
 
--- The ending of a source with these bytes, which is no list of sums.
-abbrev pub IsRefusal : List ℕ → Closed → Type 0
-IsRefusal bytes closed =
-    ((closed.ending ≡ ending.NoMemory) ⊎ ((place : ℕ) × (closed.ending ≡ unbuilt place) × IsUnbuilt bytes place))
+-- want of memory, or this refusal, with its line
+abbrev pub Refuses : List ℕ → Refusal → Closed → Type 0
+Refuses bytes refusal closed =
+    ((closed.ending ≡ ending.NoMemory) ⊎ (closed.ending ≡ ending.Refused refusal))
     × LineIs bytes closed.ending (string_bytes closed.line)
+
+-- the cause of an ending that is a refusal or want of memory
+abbrev pub CauseOfRefusal : Ending → List ℕ → Type 0
+CauseOfRefusal (ending.Refused refusal) bytes = HasRefusal bytes refusal
+CauseOfRefusal ending.NoMemory bytes = Unit {0}
+CauseOfRefusal other bytes = ⊥
+
+-- The ending of a source with these bytes, which is no list of sums, and its line.
+pub record IsRefusal (bytes : List ℕ) (closed : Closed) : Type 0 where
+  pub cause : CauseOfRefusal closed.ending bytes
+  pub line : LineIs bytes closed.ending (string_bytes closed.line)

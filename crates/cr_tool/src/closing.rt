@@ -1,8 +1,9 @@
-ghost use Rattle.std.specs.Prelude.{◌≡◌, ◌≤◌, ◌<◌, ◌^◌, length, IfOk, IfSome};
+ghost use Rattle.std.specs.Prelude.{◌≡◌, ◌<◌, ◌≤◌, ◌^◌, length, take, IfOk};
 ghost use Rattle.std.specs.String.{string_bytes};
-ghost use Rattle.cr_tool.specs.Endings.{status_of, place_of, place_text, code_text, fixed, refusal_line};
+ghost use Rattle.cr_tool.specs.Endings.{status_of, place_after, place_of, place_text, source_text, code_text, fixed, refusal_line};
 
 use crate::ending::{Code, Ending, Refusal, Which};
+use cr_source::Code as SourceCode;
 use std::alloc::{AllocError, Global};
 
 /// The exit status of an ending.
@@ -37,23 +38,50 @@ pub fn fixed(ending: Ending) -> &'static str
     }
 }
 
+/// The code of a refusal of a source, and what it says.
+fn source_text(code: SourceCode) -> &'static str
+    ensures { result.now ≡ source_text code }
+{
+    match code {
+        SourceCode::NotUtf8 => "L1 not UTF-8",
+        SourceCode::BadByte => "L2 unexpected byte",
+        SourceCode::OpenString => "L3 string not closed",
+        SourceCode::BadEscape => "L4 bad escape",
+        SourceCode::BadNumber => "L5 bad number",
+        SourceCode::Unexpected => "P1 unexpected token",
+        SourceCode::TooDeep => "P2 nested too deeply",
+        SourceCode::TooManyNodes => "P3 too many nodes",
+    }
+}
+
 fn code_text(code: Code) -> &'static str
     ensures { result.now ≡ code_text code }
 {
     match code {
+        Code::Source(code) => source_text(code),
         Code::NotBuilt => "X0 not built yet",
     }
 }
 
-/// The line and the column of a byte place, both from 1. Columns count bytes.
-fn place_of(source: &[u8], at: usize) -> (u32, u32)
-    requires within { at ≤ length source.now }
-    requires short { length source.now < 2 ^ 31 }
-    ensures { result ≡ place_of source.now at }
+/// The bytes before a place, all of them where it stands behind the last.
+fn front(source: &[u8], at: usize) -> &[u8]
+    ensures is { result.now ≡ take at source.now }
+    ensures shorter { length result.now ≤ length source.now }
+{
+    if at < source.len() {
+        return &source[..at];
+    }
+    source
+}
+
+/// The line and the column behind these bytes, both from 1. Columns count bytes.
+fn place_behind(bytes: &[u8]) -> (u32, u32)
+    requires { length bytes.now < 2 ^ 31 }
+    ensures { result ≡ place_after 1 1 bytes.now }
 {
     let mut line = 1;
     let mut column = 1;
-    for byte in &source[..at] {
+    for byte in bytes {
         if *byte == b'\n' {
             line += 1;
             column = 1;
@@ -64,10 +92,17 @@ fn place_of(source: &[u8], at: usize) -> (u32, u32)
     (line, column)
 }
 
+/// The line and the column of a byte place.
+fn place_of(source: &[u8], at: usize) -> (u32, u32)
+    requires { length source.now < 2 ^ 31 }
+    ensures { result ≡ place_of source.now at }
+{
+    place_behind(front(source, at))
+}
+
 /// The front of a refusal's line: its place, if it has one.
 fn place_text(alloc: Global, source: &[u8], at: Option<u32>) -> Result<String, AllocError>
-    requires within { IfSome at (λ at. at ≤ length source.now) }
-    requires short { length source.now < 2 ^ 31 }
+    requires { length source.now < 2 ^ 31 }
     ensures { IfOk result (λ text. string_bytes text ≡ place_text source.now at) }
 {
     let Some(at) = at else {
@@ -83,8 +118,7 @@ fn place_text(alloc: Global, source: &[u8], at: Option<u32>) -> Result<String, A
 
 /// The closing line of a refusal.
 pub fn refusal_line(alloc: Global, source: &[u8], refusal: Refusal) -> Result<String, AllocError>
-    requires within { IfSome refusal.at (λ at. at ≤ length source.now) }
-    requires short { length source.now < 2 ^ 31 }
+    requires { length source.now < 2 ^ 31 }
     ensures { IfOk result (λ line. string_bytes line ≡ refusal_line source.now refusal) }
 {
     let mut line = place_text(alloc, source, refusal.at)?;

@@ -9,6 +9,7 @@ ghost use Rattle.cr_tool.specs.Reported.{ending_of, IsEnded, IsFinished, IsNoCom
 use crate::closing::status_of;
 use crate::ended::Ended;
 use crate::ending::Ending;
+use crate::laws::refusals_are_exact;
 use crate::opening::open;
 use crate::reading_words::read_words;
 use crate::report::{Ran, Report};
@@ -75,6 +76,7 @@ pub fn run_command<
         (writing K.written K.faults out result.out) (writing E.written E.faults err result.err) result.report }
     ensures trace { new_trace.new ≡ new_trace.old }
 {
+    refusals_are_exact();
     let mut out = out;
     let mut err = err;
     let ended = read_and_run(alloc, source, &mut out);
@@ -130,6 +132,7 @@ pub fn tool<
             run_command(rt, alloc, &run, source, out, err, new_trace, gate)
         }
         Err(fault) => {
+            refusals_are_exact();
             let mut err = err;
             let ended = Ended::new(alloc, ending_of(fault), History::new(alloc));
             let report = make_report(&mut err, ended);

@@ -1,6 +1,10 @@
-/// What a refusal says of a source. One variant for each code of a refusal that is built.
+use cr_source::Code as SourceCode;
+
+/// What a refusal says of a source, by the stage that refuses it.
 #[derive(Clone, Copy, Debug, PartialEq, Eq)]
 pub enum Code {
+    /// The source is no program, by its tokens or its grammar.
+    Source(SourceCode),
     /// `X0`: a form that is not built yet.
     NotBuilt,
 }

@@ -17,7 +17,7 @@ mod words;
 
 pub use command::{run_command, tool};
 pub use ending::{Code, Ending, Refusal, Which};
-pub use laws::{one_program, one_refusal, program_or_refusal};
+pub use laws::{one_program, one_refusal, program_or_refusal, refusals_are_exact};
 pub use reading_words::read_words;
 pub use report::{Ran, Report};
 pub use words::{Job, RunWords, Words, WordsFault};

@@ -14,4 +14,4 @@ returns-in-Err-clause-command g c = λ run says.
     let memory = words_memory c.args.words.now run c.in-Err.fault says (λ is. (c.read_words.ensures.usage).0 (cc (c.in-Err.is, is))) in
     let source = reading s.left s.met_end s.faults c.args.source.now c.args.source.now in
     let before = ended_before source (k.written c.args.out) (k.faults c.args.out) c.new-ended.result (c.new-ended.ensures.ending ∙ c.ending_of.ensures ∙ ap ending_of memory) (ap (λ (h : Record). h.entries) c.new-ended.ensures.history ∙ c.new.ensures) in
-    reported run.budget source (writing k.written k.faults c.args.out c.args.out) (writing e.written e.faults c.args.err c.make_report-report.new.err) c.new-ended.result c.make_report-report.result (enough c.args.words.now run says) before c.make_report-report.ensures
+    reported c.refusals_are_exact.ensures run.budget source (writing k.written k.faults c.args.out c.args.out) (writing e.written e.faults c.args.err c.make_report-report.new.err) c.new-ended.result c.make_report-report.result (enough c.args.words.now run says) before c.make_report-report.ensures

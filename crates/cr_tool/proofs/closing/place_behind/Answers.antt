@@ -1,11 +1,11 @@
-use Rattle.std.proofs.Common.{take, arith}
+use Rattle.std.proofs.Common.{arith}
 use Rattle.cr_tool.proofs.Places.{line_feed_more, other_more}
-use Rattle.cr_tool.proofs.closing.place_of.Goals as goal
-use Rattle.cr_tool.proofs.closing.place_of.Goals.{then-byte-eq10, else-byte-eq10}
+use Rattle.cr_tool.proofs.closing.place_behind.Goals as goal
+use Rattle.cr_tool.proofs.closing.place_behind.Goals.{then-byte-eq10, else-byte-eq10}
 
 pub loop-byte-preserved : goal.loop-byte-preserved
 loop-byte-preserved c =
-    let text = take c.args.at c.args.source.now in
+    let text = c.args.bytes.now in
     elim c.if-byte-eq10.branch [
       | then-byte-eq10 w ↦ record {
         is = line_feed_more text c.loop-byte.byte-index _ _ _ _ c.loop-byte-test.true c.loop-byte.invariant.is w.if-byte-eq10.true w.line-is w.column-is;

@@ -1,10 +1,10 @@
 use Rattle.std.proofs.Common.{◌≡◌, ◌+◌, ◌≤◌, take}
 use Rattle.cr_tool.specs.Endings.{place_after}
-use Rattle.cr_tool.proofs.closing.place_of.Given as goal
+use Rattle.cr_tool.proofs.closing.place_behind.Given as goal
 
 abbrev pub invariant-loop-byte : goal.invariant-loop-byte
 invariant-loop-byte l = record {
-  is : (l.line, l.column) ≡ place_after 1 1 (take l.byte-index l.byte-items);
+  is : (l.line, l.column) ≡ place_after 1 1 (take l.byte-index l.bytes);
   line_small : l.line ≤ l.byte-index + 1;
   column_small : l.column ≤ l.byte-index + 1;
 }
