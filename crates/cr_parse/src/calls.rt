@@ -17,7 +17,7 @@ use std::alloc::Global;
 pub const MAX_TURNS: usize = usize::MAX;
 
 /// So many constructs may stand in one another, parentheses among them.
-pub const MAX_DEPTH: usize = 1_000;
+pub const MAX_DEPTH: usize = 640;
 
 /// A construct at the cursor, or why there is none; then the cursor is as before.
 fn answered(alloc: Global, wanted: Wanted, cursor: &mut Cursor<'_>) -> Result<Tree, ParseFault>
