@@ -1,6 +1,7 @@
 //! Texts, and what the parser answers to them.
 
 mod hostile;
+mod prelude;
 mod refusals;
 mod shape;
 mod trees;

@@ -1,0 +1,3 @@
+mod Keys
+mod Found
+mod Fronts

@@ -1,0 +1,4 @@
+-- What contracts cite.
+pub mod Builtins
+pub mod Methods
+pub mod Trees
