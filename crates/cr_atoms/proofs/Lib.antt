@@ -1,6 +1,7 @@
 mod Sets
 mod Merge
 mod Tables
+mod Equal
 mod Found
 mod Members
 mod Classes

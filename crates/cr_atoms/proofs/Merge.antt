@@ -1,12 +1,11 @@
 -- The join of two sets, one atom after the other: the lesser of their first atoms comes first.
-use Rattle.std.proofs.Common.{◌≡◌, ℕ, zero, suc, ◌+◌, ◌-◌, ◌<◌, ◌≤◌, Bool, true, false, cond, nat_lt, List, [], ◌∷◌, ◌++◌, length, take, drop, get_or, All, refl, sym, ap, ◌∙◌, subst, arith, append_assoc, add-one, append-nil, drop-cons, ◌⊎◌, inl, inr}
-use Rattle.std.proofs.lemmas.Bool.Decides.{nat_tests}
+use Rattle.std.proofs.Common.{◌≡◌, ℕ, zero, suc, ◌+◌, ◌-◌, ◌<◌, ◌≤◌, List, [], ◌∷◌, ◌++◌, length, take, drop, get_or, refl, sym, ap, ◌∙◌, subst, arith, append_assoc, add-one, append-nil, drop-cons, ◌⊎◌, inl, inr}
 use Rattle.std.proofs.Math.ListN.{drop_of_length-le}
 use Rattle.std.proofs.lemmas.List.{take_rest}
-use Rattle.std.proofs.lemmas.List.Elements.{All-head, All-tail, All-cons}
+use Rattle.std.proofs.lemmas.List.Elements.{All-head, All-tail}
 use Rattle.cr_base.specs.declared.ids.AtomId.{AtomId}
 use Rattle.cr_atoms.specs.Set.{IsAscending, with_member, joined}
-use Rattle.cr_atoms.proofs.Sets.{Above, ascending_head, ascending_tail, ascending_none, ascending_with, with_less, with_same, with_greater, atom_same}
+use Rattle.cr_atoms.proofs.Sets.{Above, ascending_head, ascending_tail, ascending_none, ascending_with, with_less, with_same, with_greater}
 
 pub ascending_joined : (xs ys : List AtomId) → IsAscending xs → IsAscending (joined xs ys)
 ascending_joined xs [] h = h

@@ -1,10 +1,9 @@
 -- A set with one more atom, and what a binary search in a set finds.
-use Rattle.std.proofs.Common.{◌≡◌, ◌≢◌, ℕ, zero, suc, ◌+◌, ◌<◌, ◌≤◌, Bool, true, false, cond, nat_lt, ◌==◌, List, [], ◌∷◌, ◌++◌, length, take, drop, get_or, All, AllPairs, Contains, insert, filter, refl, sym, ap, ◌∙◌, subst, arith}
+use Rattle.std.proofs.Common.{◌≡◌, ℕ, zero, suc, ◌+◌, ◌<◌, ◌≤◌, Bool, true, false, cond, nat_lt, ◌==◌, List, [], ◌∷◌, length, get_or, All, insert, refl, sym, ap, ◌∙◌, subst, arith}
 use Rattle.std.proofs.lemmas.Bool.Decides.{nat_tests}
 use Rattle.std.specs.List.{AllWithin}
-use Rattle.std.specs.List.Sorted.{IsSortedBy, IsNonDecreasingBy, IsPartitionPoint}
+use Rattle.std.specs.List.Sorted.{IsNonDecreasingBy, IsPartitionPoint}
 use Rattle.std.specs.Ordering.{nat_cmp, ordering_index, is_lt}
-use Rattle.std.specs.declared.cmp.Ordering.{Ordering}
 use Rattle.std.specs.declared.cmp.Ordering.TheVariants.{Less, Equal, Greater}
 use Rattle.std.proofs.lemmas.Cmp.{ranked, nat_cmp_total}
 use Rattle.std.proofs.lemmas.List.Kept.{AllPairs-cons}
@@ -81,9 +80,6 @@ with_fresh (a ∷ xs) atom (suc i) within less greater =
     ∙ sym (with_less a xs atom (less 0 atom (omega arith) (omega arith)))
 
 -- what a binary search in a set answers
-pub found_is : (a atom : AtomId) → nat_cmp a.0 atom.0 ≡ Equal → a.0 ≡ atom.0
-found_is a atom e = ranked a.0 atom.0 Equal (sym e)
-
 searchable : (xs : List AtomId) (atom : AtomId) → IsAscending xs → IsNonDecreasingBy (λ a. ordering_index (nat_cmp a.0 atom.0)) xs
 searchable xs atom h = searchable_from_sorted nat_cmp_total (λ (a : AtomId). a.0) xs atom.0
     (λ k d low within. let less : (get_or xs k d).0 < (get_or xs (k + 1) d).0 = h k (k + 1) d (omega arith) (omega arith) in not_before (get_or xs (k + 1) d).0 (get_or xs k d).0 (omega arith))

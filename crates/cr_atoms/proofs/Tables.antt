@@ -1,22 +1,16 @@
 -- The depths of a table, and what is kept when an atom is put last.
-use Rattle.std.proofs.Common.{◌≡◌, ◌≢◌, ℕ, zero, suc, ◌+◌, ◌<◌, ◌≤◌, ◌^◌, max, Bool, true, false, List, [], ◌∷◌, ◌++◌, length, map, drop, get_or, slice_get, Option, Some, None, is_some, All, AllPairs, refl, sym, ap, ◌∙◌, subst, ◌⊎◌, inl, inr, arith, add-one, drop-cons, true≢false, length-append}
+use Rattle.std.proofs.Common.{◌≡◌, ◌≢◌, ℕ, zero, suc, ◌+◌, ◌<◌, ◌≤◌, ◌^◌, List, [], ◌∷◌, ◌++◌, length, get_or, slice_get, Some, All, AllPairs, refl, sym, ap, ◌∙◌, subst, ◌⊎◌, inl, inr, arith, length-append}
 use Rattle.std.proofs.lemmas.Bool.{cases_lt}
 use Rattle.std.proofs.lemmas.List.{get_or_append_left}
-use Rattle.std.proofs.lemmas.List.Elements.{All-push, All-weaker}
+use Rattle.std.proofs.lemmas.List.Elements.{All-push}
 use Rattle.std.proofs.lemmas.Map.Entries.{length-values_of}
 use Rattle.std.proofs.lemmas.Option.{slice_get_within, get_or_from_slice_get, slice_get-get_or}
 use Rattle.std.proofs.Math.Seq.{get_or-append_seam}
 use Rattle.std.specs.Map.{keys_of, values_of}
-use Rattle.cr_base.specs.declared.ids.AtomId.{AtomId}
 use Rattle.cr_atoms.specs.declared.atom.Atom.{Atom}
 use Rattle.cr_atoms.specs.declared.atoms.TheConstants.{DEEPEST}
-use Rattle.cr_atoms.specs.Table.{AreMade, ArePartsBefore, greatest, depth_over, depths_behind, depths, depth_of, IsLawful}
+use Rattle.cr_atoms.specs.Table.{AreMade, ArePartsBefore, depth_over, depths_behind, depths, IsLawful}
 use Rattle.cr_atoms.specs.Kept.{IsKept}
-
--- the greatest of what a loop has left
-pub greatest_drop : {X : Type 0} (f : X → ℕ) (xs : List X) (i : ℕ) (d : X) → i < length xs
-    → greatest (map f (drop i xs)) ≡ max (f (get_or xs i d)) (greatest (map f (drop (i + 1) xs)))
-greatest_drop f xs i d h = rw (add-one, drop-cons xs i d) refl
 
 depths_push : (before : List ℕ) (atoms : List Atom) (atom : Atom)
     → depths_behind before (atoms ++ atom ∷ []) ≡ depths_behind before atoms ++ depth_over (depths_behind before atoms) atom.args ∷ []

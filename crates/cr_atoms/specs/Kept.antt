@@ -1,5 +1,5 @@
 -- How the table is kept: the atoms, and beside each its depth.
-use Rattle.std.specs.Prelude.{◌≡◌, ℕ, ◌<◌, ◌≤◌, ◌^◌, List, length, slice_index_or, All}
+use Rattle.std.specs.Prelude.{◌≡◌, ℕ, ◌≤◌, ◌^◌, List, length, All}
 use Rattle.cr_atoms.specs.declared.atom.Atom.{Atom}
 use Rattle.cr_atoms.specs.declared.atoms.TheConstants.{DEEPEST}
 use Rattle.cr_atoms.specs.Table.{depths, ArePartsBefore}

@@ -4,4 +4,3 @@ pub mod Table
 -- what only carries a proof inside
 pub mod Kept
 pub mod Same
-pub mod Equal

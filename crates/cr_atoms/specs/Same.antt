@@ -1,5 +1,5 @@
 -- The tests of sets and of arguments by which the table finds an atom, and their laws.
-use Rattle.std.specs.Prelude.{◌≡◌, ℕ, ◌==◌, Bool, true, List}
+use Rattle.std.specs.Prelude.{◌==◌, Bool, List}
 use Rattle.std.proofs.Common.{eqb-true, ap}
 use Rattle.std.specs.Hash as fed
 use Rattle.std.specs.Hash.{Alike, HashWrites, items_Alike}

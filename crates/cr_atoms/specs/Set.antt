@@ -1,5 +1,5 @@
 -- A type is a set of atoms: a list of their numbers, each once, in ascending order.
-use Rattle.std.specs.Prelude.{ℕ, ◌<◌, ◌==◌, nat_lt, List, [], ◌∷◌, if◌then◌else◌, AllPairs, Contains}
+use Rattle.std.specs.Prelude.{◌<◌, ◌==◌, nat_lt, List, [], ◌∷◌, if◌then◌else◌, AllPairs, Contains}
 use Rattle.cr_base.specs.declared.ids.AtomId.{AtomId}
 
 -- each number is below all later ones

@@ -8,7 +8,6 @@ ghost use Rattle.cr_atoms.specs.Same.{same_set, same_set_equiv, fed_set, same_se
 
 use crate::type_set::TypeSet;
 use cr_base::{ClassId, NoMemory};
-use indexmap::Equivalent;
 use std::alloc::Global;
 use std::hash::{Hash, Hasher};
 use std::marker::Model;
@@ -79,26 +78,4 @@ pub struct Atom {
     pub class: ClassId,
     /// Its type arguments, one for each type parameter of the class.
     pub args: TypeArguments,
-}
-
-/// An atom that is looked for, by its parts: so its arguments are not copied.
-#[derive(Clone, Copy, PartialEq, Eq, Hash)]
-pub(crate) struct Wanted<'a> {
-    pub(crate) class: ClassId,
-    pub(crate) args: &'a [TypeSet],
-}
-
-impl Equivalent<Atom> for Wanted<'_> {
-    ghost use Rattle.cr_atoms.specs.Table.{written};
-    ghost use Rattle.cr_atoms.specs.Equal.{same_written, fed_alike, found_alike};
-
-    ghost equivalent = { λ wanted atom. same_written (written wanted.class wanted.args.now) atom };
-
-    ghost respects_hash = { λ wanted atom. fed_alike wanted.class wanted.args.now atom };
-
-    ghost respects_eq = { λ wanted. found_alike wanted.class wanted.args.now };
-
-    fn equivalent(&self, atom: &Atom) -> bool {
-        self.class == atom.class && self.args == atom.args.as_slice()
-    }
 }

@@ -3,7 +3,7 @@
 ghost use Rattle.std.specs.Prelude.{◌≡◌, ◌≤◌, ◌<◌, ◌+◌, ◌^◌, ◌↔◌, ◌++◌, ◌∷◌, [], length, map, slice_get, All, Contains, Some, IfOk, OnOk, OnErr, IsErrOf, IsTrue};
 ghost use Rattle.cr_atoms.specs.Table.{written, class_of, args_of, is_of_any, AreMade, IsFront, IsLawful, depth_of, depth_with, greatest};
 
-use crate::atom::{Atom, TypeArguments, Wanted};
+use crate::atom::{Atom, TypeArguments};
 use crate::type_set::TypeSet;
 use cr_base::{AtomId, ClassId, NoMemory};
 use indexmap::IndexMap;
@@ -92,11 +92,11 @@ impl Atoms {
         if depth > DEEPEST {
             return Err(AtomFault::TooDeep);
         }
-        if let Some(place) = self.depths.get_index_of(Wanted { class, args }) {
-            return Ok(AtomId(place as u32));
-        }
         let args = TypeArguments::copies(self.alloc, args)?;
         let atom = Atom { class, args };
+        if let Some(place) = self.depths.get_index_of(&atom) {
+            return Ok(AtomId(place as u32));
+        }
         let (place, _) = self.depths.insert_full(atom, depth)?;
         Ok(AtomId(place as u32))
     }

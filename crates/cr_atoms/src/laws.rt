@@ -1,5 +1,5 @@
 // What holds of every set and of every table of atoms, whatever is done to them.
-ghost use Rattle.std.specs.Prelude.{◌≡◌, ◌≢◌, ◌<◌, ◌+◌, ◌⊎◌, ◌↔◌, ℕ, List, [], ◌∷◌, length, map, slice_get, Some, Contains, AllPairs};
+ghost use Rattle.std.specs.Prelude.{◌≡◌, ◌≢◌, ◌<◌, ◌⊎◌, ◌↔◌, ℕ, List, [], length, slice_get, Some, Contains, AllPairs};
 ghost use Rattle.cr_base.specs.declared.ids.AtomId.{AtomId};
 ghost use Rattle.cr_base.specs.declared.ids.ClassId.{ClassId};
 ghost use Rattle.cr_atoms.specs.declared.atom.Atom.{Atom};

@@ -61,8 +61,8 @@ shaped = ((k.Member ∷ [], k.Term ∷ [], refl, (refl, tt), (refl, tt)), (tt, t
 abbrev scope : Scope
 scope = record { kind = Main; home = None; site = node_id 0; body = node_id 2; parameters = 0; slots = record { name = Some (record { 0 = 0 }); captured = false } ∷ [] }
 
-no_parameters : (ps : List NodeId) → Each (λ (i : ℕ) (p : NodeId). (slot : ℕ) → form_at (rows trees) (Some p) ≡ Some (f.Parameter slot) → slot ≡ i) 0 ps → (i slot : ℕ) (p : NodeId) → slice_get ps i ≡ Some p → form_at (rows trees) (Some p) ≡ Some (f.Parameter slot) → slot ≡ i
-no_parameters ps all i slot p is form = each_at (λ (i : ℕ) (p : NodeId). (slot : ℕ) → form_at (rows trees) (Some p) ≡ Some (f.Parameter slot) → slot ≡ i) 0 ps all i p is i (omega arith) slot form
+no_parameters : (ps : List NodeId) → Each (λ (i : ℕ) (p : NodeId). (slot : ℕ) (restricted : Bool) → form_at (rows trees) (Some p) ≡ Some (f.Parameter slot restricted) → slot ≡ i) 0 ps → (i slot : ℕ) (restricted : Bool) (p : NodeId) → slice_get ps i ≡ Some p → form_at (rows trees) (Some p) ≡ Some (f.Parameter slot restricted) → slot ≡ i
+no_parameters ps all i slot restricted p is form = each_at (λ (i : ℕ) (p : NodeId). (slot : ℕ) (restricted : Bool) → form_at (rows trees) (Some p) ≡ Some (f.Parameter slot restricted) → slot ≡ i) 0 ps all i p is i (omega arith) slot restricted form
 
 known : Each (IsKnown contents) 0 (rows trees)
 known = (
@@ -72,7 +72,7 @@ known = (
     text = tt;
     local = tt;
     opens = λ k is. let same : first_scope ≡ k = cc in (scope, subst (λ (k : ScopeId). slice_get contents.scopes k.0 ≡ Some scope) same refl, refl);
-    parameters = no_parameters (node_id 1 ∷ node_id 2 ∷ []) ((λ slot is. absurd cc), ((λ slot is. absurd cc), tt));
+    parameters = no_parameters (node_id 1 ∷ node_id 2 ∷ []) ((λ slot restricted is. absurd cc), ((λ slot restricted is. absurd cc), tt));
   },
   (
     record {
@@ -90,7 +90,7 @@ known = (
         text = tt;
         local = record { resolved = refl; scope = scope; stands = refl; slot = omega arith };
         opens = λ k is. absurd cc;
-        parameters = no_parameters (node_id 3 ∷ []) ((λ slot is. absurd cc), tt);
+        parameters = no_parameters (node_id 3 ∷ []) ((λ slot restricted is. absurd cc), tt);
       },
       (
         record {

@@ -20,7 +20,7 @@ role f.Send = Clause
 role f.Receive = Clause
 role f.ReceiveOrNil = Clause
 role (f.Block scope) = Block
-role (f.Parameter slot) = Parameter
+role (f.Parameter slot restricted) = Parameter
 role (f.Atom name) = Atom
 role f.Union = Union
 role (f.TypeParameter name) = TypeParameter
@@ -78,7 +78,7 @@ portions (f.Program scope) = many Member ∷ one Term ∷ []  -- the prelude's m
 portions (f.Def name scope result written) =  -- the parameters, the result type, the body
     many Parameter ∷ (where_told result Union ++ one Term ∷ [])
 portions (f.Block scope) = many Parameter ∷ one Term ∷ []  -- the parameters, the body
-portions (f.Parameter slot) = many Union ∷ []  -- its type, where one is written
+portions (f.Parameter slot restricted) = where_told restricted Union  -- its type
 portions (f.Class name superclass) = many TypeParameter ∷ many Member ∷ []  -- the type parameters, the members
 portions (f.Module name) = many Member ∷ []  -- the members
 portions (f.Declaration name) = one Union ∷ []  -- the type

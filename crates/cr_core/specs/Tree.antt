@@ -118,7 +118,7 @@ last_or n (part ∷ parts) = last_or part parts
 
 -- how many parts there are before the first that is no parameter
 abbrev pub one_parameter : Option Form → ℕ → ℕ
-one_parameter (Some (f.Parameter slot)) more = suc more
+one_parameter (Some (f.Parameter slot restricted)) more = suc more
 one_parameter other more = 0
 
 abbrev pub parameters_of : List Row → List NodeId → ℕ
@@ -180,7 +180,7 @@ pub record IsKnown (t : Contents) (n : ℕ) (r : Row) : Type 0 where
   pub local : IfSome (local_of r.form) (IsLocal t r.within.scope)
   pub opens : (k : ScopeId) → opening r.form ≡ Opens k → (s : Scope) × (slice_get t.scopes k.0 ≡ Some s) × (s ≡ scope_of t.rows n r s.slots)
   -- a parameter's slot is its place among the parts
-  pub parameters : (i slot : ℕ) (p : NodeId) → slice_get r.parts i ≡ Some p → form_at t.rows (Some p) ≡ Some (f.Parameter slot) → slot ≡ i
+  pub parameters : (i slot : ℕ) (restricted : Bool) (p : NodeId) → slice_get r.parts i ≡ Some p → form_at t.rows (Some p) ≡ Some (f.Parameter slot restricted) → slot ≡ i
 
 -- a scope is opened by a row, stands behind its home, and has its parameters among its slots
 pub record IsScope (t : Contents) (k : ℕ) (s : Scope) : Type 0 where

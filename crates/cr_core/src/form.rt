@@ -118,8 +118,11 @@ pub enum Form {
     },
     /// The block of a call, or one that a fiber begins with.
     Block(ScopeId),
-    /// A parameter, by its slot in the scope in which it stands.
-    Parameter(u32),
+    /// A parameter, by its slot in the scope in which it stands, with its type written or not.
+    Parameter {
+        slot: u32,
+        restricted: bool,
+    },
 
     // Declarations.
     Class {

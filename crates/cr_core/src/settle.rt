@@ -121,7 +121,7 @@ fn parameters_of(rows: &[Row], parts: &[NodeId]) -> usize
     let mut count = 0;
     for part in parts {
         match form_at(rows, Some(*part)) {
-            Some(Form::Parameter(_)) => count += 1,
+            Some(Form::Parameter { .. }) => count += 1,
             _ => return count,
         }
     }

@@ -1,12 +1,10 @@
--- Two keys pass the derived test exactly where they are equal, and what follows for a list of distinct keys.
-use Rattle.std.proofs.Common.{◌≡◌, ℕ, ◌&&◌, ◌==◌, Bool, true, false, List, Option, Some, None, slice_get, Contains, position, refl, sym, ap, ◌∙◌, true≢false, eqb-true, eq-eqb}
+-- Two keys that pass the derived test are equal.
+use Rattle.std.proofs.Common.{◌≡◌, ◌&&◌, ◌==◌, Bool, true, Option, Some, None, refl, sym, ap, true≢false, eqb-true, eq-eqb}
 use Rattle.std.specs.Bool.{Decides}
-use Rattle.std.specs.Cmp.{IsEquivalence, first_so, second_so}
+use Rattle.std.specs.Cmp.{first_so, second_so}
 use Rattle.std.specs.Cmp.Lexicographic.{pointwise, pointwise_decides}
-use Rattle.std.specs.List.{list_any}
 use Rattle.std.specs.Option.{option_eq}
 use Rattle.cr_base.specs.declared.ids.AtomId.{AtomId}
-use Rattle.cr_base.specs.declared.ids.MethodId.{MethodId}
 use Rattle.cr_base.specs.declared.ids.NodeId.{NodeId}
 use Rattle.cr_base.specs.declared.ids.InstanceId.{InstanceId}
 use Rattle.cr_instances.specs.Same.{same_atom}

@@ -1,5 +1,5 @@
 -- The test of two atoms' numbers, and the laws that a list of atoms needs to be found by its hash.
-use Rattle.std.specs.Prelude.{◌≡◌, ℕ, ◌==◌, Bool, true}
+use Rattle.std.specs.Prelude.{◌==◌, Bool}
 use Rattle.std.proofs.Common.{eqb-true, ap}
 use Rattle.std.specs.Hash as fed
 use Rattle.std.specs.Hash.{Alike}

@@ -37,23 +37,28 @@ fn number_of(
 #[test]
 fn a_key_keeps_the_place_where_it_first_came(rt: HostRuntime) -> Result<(), Fail> {
     let alloc = rt.alloc();
-    let (a, b) = (AtomId(2), AtomId(3));
     let mut instances = Instances::new(alloc);
-    assert_eq!(rt; number_of(alloc, &mut instances, 7, &[], None)?, Some(0));
-    assert_eq!(rt; number_of(alloc, &mut instances, 7, &[a], None)?, Some(1));
-    assert_eq!(rt;
-        number_of(alloc, &mut instances, 7, &[a, b], None)?,
-        Some(2)
-    );
-    assert_eq!(rt;
-        number_of(alloc, &mut instances, 7, &[b, a], None)?,
-        Some(3)
-    );
-    assert_eq!(rt; number_of(alloc, &mut instances, 7, &[], Some(0))?, Some(4));
-    assert_eq!(rt; number_of(alloc, &mut instances, 8, &[], None)?, Some(5));
-    assert_eq!(rt; number_of(alloc, &mut instances, 7, &[a], None)?, Some(1));
-    assert_eq!(rt; number_of(alloc, &mut instances, 7, &[], Some(0))?, Some(4));
-    assert_eq!(rt; key_of(alloc, 7, &[a, b], None)?.args.into_vec().len(), 2);
+    for (method, args, block, want) in [
+        (7, &[][..], None, 0),
+        (7, &[AtomId(2)][..], None, 1),
+        (7, &[AtomId(2), AtomId(3)][..], None, 2),
+        (7, &[AtomId(3), AtomId(2)][..], None, 3),
+        (7, &[][..], Some(0), 4),
+        (8, &[][..], None, 5),
+        (7, &[AtomId(2)][..], None, 1),
+        (7, &[][..], Some(0), 4),
+    ] {
+        let number = number_of(alloc, &mut instances, method, args, block)?;
+        assert_eq!(rt; number, Some(want), "at {want}");
+    }
+    Ok(())
+}
+
+#[test]
+fn arguments_come_back_in_order(rt: HostRuntime) -> Result<(), Fail> {
+    let args = [AtomId(2), AtomId(3)];
+    let key = key_of(rt.alloc(), 7, &args, None)?;
+    assert_eq!(rt; key.args.into_vec().as_slice(), args.as_slice());
     Ok(())
 }
 

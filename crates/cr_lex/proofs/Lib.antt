@@ -1,12 +1,12 @@
-mod LongestOperator
+pub mod LongestOperator
 pub mod WordBytes
-mod Values
-mod Marked
-mod Slices
-mod Scanned
-mod PartsRead
-mod PartText
+pub mod Values
+pub mod Marked
+pub mod Slices
+pub mod Scanned
+pub mod PartsRead
+pub mod PartText
 pub mod PlainText
-mod Dispatch
-mod Stepping
+pub mod Dispatch
+pub mod Stepping
 mod Answered

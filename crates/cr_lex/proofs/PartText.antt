@@ -23,7 +23,7 @@ text_behind n text (Found part m) front rest = IsUtf8-append text part.bytes fro
 text_behind n text (Bad m) front rest = tt
 text_behind n text Unended front rest = tt
 
-one_ascii : (x : ℕ) → x < 128 → IsUtf8 (x ∷ [])
+pub one_ascii : (x : ℕ) → x < 128 → IsUtf8 (x ∷ [])
 one_ascii x below = IsUtf8-from_ascii (x ∷ []) (IsAscii-cons x [] below IsAscii-nil)
 
 escape_ascii : (b c : ℕ) → escape b ≡ Some c → c < 128
@@ -54,11 +54,11 @@ text_low b false false false r s below escaped plain = text_behind 1 (b ∷ []) 
 
 -- ---- the bytes of other characters
 
-abbrev AllHigh : List ℕ → Type 0
+abbrev pub AllHigh : List ℕ → Type 0
 AllHigh [] = Unit {0}
 AllHigh (b ∷ bs) = (128 ≤ b) × AllHigh bs
 
-not_low : (b n : ℕ) → 128 ≤ b → n < 128 → (b == n) ≡ false
+pub not_low : (b n : ℕ) → 128 ≤ b → n < 128 → (b == n) ≡ false
 not_low b n high low = ne_eqb b n (λ e. absurd (omega arith))
 
 escape_high : (b : ℕ) → 128 ≤ b → escape b ≡ None
@@ -96,7 +96,7 @@ escaped_high : (xs ys : List ℕ) → AllHigh xs → 0 < length xs → IsText (s
 escaped_high [] ys high some = absurd (omega arith)
 escaped_high (b ∷ xs) ys high some = subst (λ (o : Option ℕ). IsText (with_escape o (scan false (xs ++ ys)))) (sym (escape_high b high.0)) tt
 
-high_encode : (c : ℕ) → 128 ≤ c → AllHigh (encode c)
+pub high_encode : (c : ℕ) → 128 ≤ c → AllHigh (encode c)
 unfolding encode
 high_encode c high = by_tests (ltb c 128) (ltb c 2048) (ltb c 65536) (le-ltb c 128 high)
   where
@@ -106,7 +106,7 @@ high_encode c high = by_tests (ltb c 128) (ltb c 2048) (ltb c 65536) (le-ltb c 1
     by_tests false false true e = (omega arith, (omega arith, (omega arith, tt)))
     by_tests false false false e = (omega arith, (omega arith, (omega arith, (omega arith, tt))))
 
-one_char : (c : ℕ) → scalar c ≡ true → IsUtf8 (encode c)
+pub one_char : (c : ℕ) → scalar c ≡ true → IsUtf8 (encode c)
 one_char c e = (c ∷ [], (and_from (scalar c) true e refl, append-nil (encode c)))
 
 some_bytes : (c : ℕ) → 0 < length (encode c)

@@ -1,5 +1,4 @@
-use Rattle.std.proofs.Common.{◌≡◌, ◌≤◌, ◌+◌, ◌-◌, ◌++◌, length, drop}
-use Rattle.cr_atoms.specs.Set.{IsAscending, joined}
+use Rattle.std.proofs.Common.{◌+◌, ◌-◌, length}
 use Rattle.cr_atoms.proofs.type_set.join.Given as goal
 use Rattle.cr_atoms.proofs.Merge.{Merges}
 

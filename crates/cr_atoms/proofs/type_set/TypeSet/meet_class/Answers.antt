@@ -1,8 +1,7 @@
-use Rattle.std.proofs.Common.{◌≡◌, ◌<◌, ◌∷◌, [], List, filter, not, sym, ap, ◌∙◌, subst, rules}
+use Rattle.std.proofs.Common.{◌≡◌, ◌<◌, filter, sym, ap, ◌∙◌, subst, rules}
 use Rattle.std.proofs.lemmas.Fn.{filter_same}
 use Rattle.std.proofs.lemmas.List.Kept.{AllPairs-filter}
 use Rattle.cr_base.specs.declared.ids.AtomId.{AtomId}
-use Rattle.cr_atoms.specs.declared.type_set.TheConstants.{NIL}
 use Rattle.cr_atoms.specs.Set.{IsAscending}
 use Rattle.cr_atoms.specs.Table.{is_of_any}
 use Rattle.cr_atoms.proofs.type_set.TypeSet.meet_class.Goals as goal

@@ -1,4 +1,4 @@
-use Rattle.std.proofs.Common.{◌≡◌, List, ◌++◌, ◌∷◌, [], Contains, sym, ◌∙◌, subst}
+use Rattle.std.proofs.Common.{◌≡◌, List, ◌++◌, ◌∷◌, [], Contains, ◌∙◌, subst}
 use Rattle.cr_instances.specs.declared.key.Key.{Key}
 use Rattle.cr_instances.proofs.Keys.{key_same}
 use Rattle.cr_instances.proofs.Found.{stands, put_last}

@@ -1,4 +1,4 @@
-use Rattle.std.proofs.Common.{◌≡◌, List, slice_get, Contains, Some, sym, ◌∙◌, subst, true≢false, rules}
+use Rattle.std.proofs.Common.{◌≡◌, List, slice_get, Contains, Some, sym, subst, true≢false, rules}
 use Rattle.cr_instances.specs.declared.key.Key.{Key}
 use Rattle.cr_instances.specs.contracts.key.KeyEq.TheImpl.Laws.{laws-law}
 use Rattle.cr_instances.proofs.Keys.{key_same}

@@ -1,0 +1,12 @@
+pub mod Vocabulary
+pub mod Nesting
+pub mod Joined
+pub mod Read
+pub mod Lexing
+pub mod Words
+pub mod Signs
+pub mod Numbers
+pub mod Texts
+pub mod Standing
+pub mod Written
+pub mod Properly
