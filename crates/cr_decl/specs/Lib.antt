@@ -1,4 +1,5 @@
 -- What contracts cite.
+pub mod Bodies
 pub mod Classes
 pub mod Lists
 pub mod Methods

@@ -1,7 +1,7 @@
 //! The calls: a whole program, and the body of a method.
 
 ghost use Rattle.cr_bodies.specs.Nests.{Nestable};
-ghost use Rattle.cr_descent.specs.Bodies.{AnswersBody, SpellsBody, body_of};
+ghost use Rattle.cr_descent.specs.Bodies.{AnswersBody, IsBody, SpellsBody, body_of};
 ghost use Rattle.cr_descent.specs.Programs.{AnswersProgram, EndsOnce, IsOnly, IsProgram};
 ghost use Rattle.cr_grammar.specs.Count.{nesting, nodes};
 ghost use Rattle.cr_grammar.specs.Grammar.{Spells_in};
@@ -14,6 +14,7 @@ ghost use Rattle.cr_readers.specs.Reads.{Reads};
 ghost use Rattle.std.specs.Prelude.{length, ◌<◌, ◌≡◌, ◌≤◌};
 
 use crate::declarations::Declarations;
+use crate::laws::body_is_accepted;
 use cr_bodies::Parser;
 use cr_descent::{
     body_depth_is_enough, body_is_answered, depth_is_enough, program_is_accepted,
@@ -105,11 +106,15 @@ pub fn body(alloc: Global, within: Within, list: &[Token]) -> Result<Tree, Parse
     requires ended { EndsOnce list.now }
     ensures answer { AnswersBody within list.now result }
 
-    // As at `program`.
+    // A body within the limits is refused nowhere.
+    ensures accepted { (x : Tree) → IsBody within list.now x → IsOnly x result }
+
+    // What is answered is what the reader finds, or want of memory; and the reader finds statements that are spelled to this depth.
     ensures reads { (s : State) × Reads (body_of MAX_TURNS MAX_DEPTH within (start_of list.now)) result s }
     ensures enough { (x : Tree) (body : SpellsBody within list.now x) → body.spelled.0 ≤ MAX_DEPTH → nodes x ≤ max_nodes → nesting x ≤ max_nesting → length list.now < MAX_TURNS → (s : State) × (body_of MAX_TURNS MAX_DEPTH within (start_of list.now) ≡ Found x s) }
 {
     body_is_answered();
+    body_is_accepted();
     body_depth_is_enough();
     let mut cursor = Cursor::new(list, within);
     Ok(whole_body(alloc, within, &mut cursor)?.into_inner())

@@ -4,6 +4,7 @@
 mod calls;
 mod classes;
 mod declarations;
+mod laws;
 mod lists;
 mod members;
 mod methods;
@@ -12,3 +13,4 @@ mod programs;
 
 pub use calls::{body, program};
 pub use declarations::Declarations;
+pub use laws::body_is_accepted;
