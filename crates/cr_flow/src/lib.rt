@@ -1,0 +1,17 @@
+//! Ways through a program: which variables are assigned before a node on every way, and which locals a spawned block captures.
+#![tactic(auto)]
+
+mod assigned;
+mod capture;
+mod chain;
+mod control;
+mod outs;
+mod reach;
+mod variable;
+
+pub use assigned::{assigned_at_end, assigned_before};
+pub use capture::captured;
+pub use variable::Variable;
+
+#[cfg(test)]
+mod tests;
