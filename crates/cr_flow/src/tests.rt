@@ -70,30 +70,49 @@ fn sample(alloc: Global) -> Result<CoreTree, NoMemory> {
     Ok(CoreTree::new(rows, scopes, names, texts))
 }
 
+fn local_before(tree: &CoreTree, node: u32) -> bool {
+    let x = Variable::Local {
+        scope: ScopeId(0),
+        slot: 0,
+    };
+    tree.scope_count() > 0 && assigned_before(tree, ScopeId(0), x, NodeId(node))
+}
+
+fn field_before(tree: &CoreTree, node: u32) -> bool {
+    tree.scope_count() > 0
+        && assigned_before(tree, ScopeId(0), Variable::Field(NameId(0)), NodeId(node))
+}
+
+fn local_at_end(tree: &CoreTree) -> bool {
+    let x = Variable::Local {
+        scope: ScopeId(0),
+        slot: 0,
+    };
+    tree.scope_count() > 0 && assigned_at_end(tree, ScopeId(0), x)
+}
+
+fn field_at_end(tree: &CoreTree) -> bool {
+    tree.scope_count() > 0 && assigned_at_end(tree, ScopeId(0), Variable::Field(NameId(0)))
+}
+
+fn captured_count(alloc: Global, tree: &CoreTree) -> Result<usize, NoMemory> {
+    if tree.scope_count() > 0 {
+        Ok(captured(alloc, tree, ScopeId(0))?.len())
+    } else {
+        Ok(1)
+    }
+}
+
 #[test]
 fn ways_through_an_assignment(rt: HostRuntime) -> Result<(), Fail> {
     let tree = sample(rt.alloc())?;
-    let main = ScopeId(0);
-    let x = Variable::Local {
-        scope: main,
-        slot: 0,
-    };
-    let y = Variable::Field(NameId(0));
-    if tree.scope_count() == 0 {
-        return Ok(());
+    // A node, whether the local and whether the instance variable is assigned before it acts. No way comes to the program.
+    for (node, local, field) in [(2, false, false), (3, false, false), (0, true, true)] {
+        assert_eq!(rt; local_before(&tree, node), local);
+        assert_eq!(rt; field_before(&tree, node), field);
     }
-    // The variable, the node, whether it is assigned before that acts, and at the end.
-    for (variable, node, before, at_end) in [
-        (x, NodeId(2), false, true),
-        (x, NodeId(3), false, true),
-        // No way comes to the program.
-        (x, NodeId(0), true, true),
-        (y, NodeId(2), false, false),
-        (y, NodeId(9), true, false),
-    ] {
-        assert_eq!(rt; assigned_before(&tree, main, variable, node), before);
-        assert_eq!(rt; assigned_at_end(&tree, main, variable), at_end);
-    }
-    assert_eq!(rt; captured(rt.alloc(), &tree, main)?.len(), 0);
+    assert!(rt; local_at_end(&tree));
+    assert!(rt; !field_at_end(&tree));
+    assert_eq!(rt; captured_count(rt.alloc(), &tree)?, 0);
     Ok(())
 }
