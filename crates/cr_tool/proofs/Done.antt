@@ -80,3 +80,8 @@ stopped_at lines i s stop.Failed old mid new turns result within is so_far wrote
   turns_are = omega (arith, ap turns_of (puts_more lines i s within is), turns_more (sums_of (take i lines)) s);
   writes = rw (why, puts_more lines i s within is, output_more (sums_of (take i lines)) s) (appends_front old mid new (output_of (sums_of (take i lines))) (output_line s) wrote (failed refl));
 }
+
+-- an evaluation that stops for want of memory leaves the count of faults as it was
+pub steady_at : (why : Stop) (answer : Option Stop) (first mid last : ℕ) → answer ≡ Some why → mid ≡ first → (why ≡ stop.NoMemory → last ≡ mid) → (answer ≡ Some stop.Failed → ⊥) → last ≡ first
+steady_at stop.NoMemory answer first mid last is so_far same other = same refl ∙ so_far
+steady_at stop.Failed answer first mid last is so_far same other = absurd (other is)

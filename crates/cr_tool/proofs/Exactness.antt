@@ -1,4 +1,4 @@
--- The endings of `run FILE` come exactly where their causes hold.
+-- Endings come exactly where their causes hold.
 use Rattle.std.proofs.Common.{◌≡◌, ℕ, ◌<◌, ◌≤◌, List, [], ◌∷◌, ◌++◌, length, map, sym, ap, ◌∙◌, arith, refl, inl, inr}
 use Rattle.std.specs.List.{AllByRecursion}
 use Rattle.std.proofs.lemmas.Bool.{cases_lt}
@@ -9,7 +9,10 @@ use Rattle.cr_tool.specs.declared.ending.Ending.TheVariants as ending
 use Rattle.cr_tool.specs.declared.sums.Line.{Line}
 use Rattle.cr_tool.specs.Sums.{IsUnbuilt, HasForm, spelling, text_of, most_lines}
 use Rattle.cr_tool.specs.State.{State}
-use Rattle.cr_tool.specs.Answer.{Reading, Writing, CauseBefore, CauseAfter, Cause, IsRun, IsExact, RefusalsAreExact}
+use Rattle.cr_tool.specs.Outside.{Reading, Writing}
+use Rattle.cr_tool.specs.Refusals.{Demand, list_of_sums, RefusalsAreExact}
+use Rattle.cr_tool.specs.Answer.{CauseBefore, IsExact}
+use Rattle.cr_tool.specs.Run.{CauseAfter, Cause, IsRun}
 use Rattle.cr_tool.proofs.Lines.{not_both}
 
 -- ---- a source is refused at one place
@@ -49,59 +52,61 @@ one_place source p q one two =
 
 -- ---- each ending
 
-exact_before : RefusalsAreExact → (e : Ending) (bytes : List ℕ) (source : Reading) (out : Writing) → CauseBefore e bytes source → IsExact e bytes source out
-exact_before law (ending.Refused refusal) bytes source out cause = record {
-  accepted = λ lines spelled short read write. absurd (not_both bytes lines cause.0.sums spelled cause.0.unbuilt);
-  fault_of_tokens = λ place f is fault short read. inl (law.tokens bytes refusal f cause.0 fault);
-  not_built = λ place x is program short read. inl (law.program bytes refusal place x cause.0 is program);
+pub exact_before : RefusalsAreExact → (demand : Demand) (done e : Ending) (bytes : List ℕ) (source : Reading) (out : Writing) → CauseBefore demand e bytes source → IsExact demand done e bytes source out
+exact_before law demand done (ending.Refused refusal) bytes source out cause = record {
+  accepted = λ takes short read write. absurd (law.taken demand bytes refusal cause.0 takes);
+  fault_of_tokens = λ f may fault short read. inl (law.tokens demand bytes refusal f cause.0 fault);
+  not_built = λ at x lacks program short read. inl (law.program demand bytes refusal at x cause.0 lacks program);
   too_long = λ long read. absurd (omega (arith, cause.1.short));
 }
-exact_before law ending.SourceTooLong bytes source out cause = record {
-  accepted = λ lines spelled short read write. absurd (omega (arith, short, cause));
-  fault_of_tokens = λ place f is fault short read. absurd (omega (arith, short, cause));
-  not_built = λ place x is program short read. absurd (omega (arith, short, cause));
+exact_before law demand done ending.SourceTooLong bytes source out cause = record {
+  accepted = λ takes short read write. absurd (omega (arith, short, cause.0));
+  fault_of_tokens = λ f may fault short read. absurd (omega (arith, short, cause.0));
+  not_built = λ at x lacks program short read. absurd (omega (arith, short, cause.0));
   too_long = λ long read. inl refl;
 }
-exact_before law (ending.ReadFault place) bytes source out cause = record {
-  accepted = λ lines spelled short read write. absurd (read cause.1);
-  fault_of_tokens = λ place f is fault short read. absurd (read cause.1);
-  not_built = λ place x is program short read. absurd (read cause.1);
+exact_before law demand done (ending.ReadFault place) bytes source out cause = record {
+  accepted = λ takes short read write. absurd (read cause.1);
+  fault_of_tokens = λ f may fault short read. absurd (read cause.1);
+  not_built = λ at x lacks program short read. absurd (read cause.1);
   too_long = λ long read. absurd (read cause.1);
 }
-exact_before law ending.NoMemory bytes source out cause = record {
-  accepted = λ lines spelled short read write. inr refl;
-  fault_of_tokens = λ place f is fault short read. inr refl;
-  not_built = λ place x is program short read. inr refl;
+exact_before law demand done ending.NoMemory bytes source out cause = record {
+  accepted = λ takes short read write. inr refl;
+  fault_of_tokens = λ f may fault short read. inr refl;
+  not_built = λ at x lacks program short read. inr refl;
   too_long = λ long read. inr refl;
 }
-exact_before law ending.Finished bytes source out cause = absurd cause
-exact_before law ending.Usage bytes source out cause = absurd cause
-exact_before law (ending.WriteFault place) bytes source out cause = absurd cause
+exact_before law demand done ending.Told bytes source out cause = absurd cause
+exact_before law demand done ending.Finished bytes source out cause = absurd cause
+exact_before law demand done ending.Usage bytes source out cause = absurd cause
+exact_before law demand done (ending.WriteFault place) bytes source out cause = absurd cause
 
-exact_after : (e : Ending) (bytes : List ℕ) (budget : ℕ) (source : Reading) (out : Writing) (history : List Entry) (errors : List ℕ) (end : State) → IsRun bytes source budget history errors end → CauseAfter e budget out history end → IsExact e bytes source out
+exact_after : (e : Ending) (bytes : List ℕ) (budget : ℕ) (source : Reading) (out : Writing) (history : List Entry) (errors : List ℕ) (end : State) → IsRun bytes source budget history errors end → CauseAfter e budget out history end → IsExact list_of_sums ending.Finished e bytes source out
 exact_after ending.Finished bytes budget source out history errors end ran cause = record {
-  accepted = λ lines spelled short read write. inl refl;
-  fault_of_tokens = λ place f is fault short read. absurd (not_both bytes ran.follows.lines place ran.follows.spelled is);
-  not_built = λ place x is program short read. absurd (not_both bytes ran.follows.lines place ran.follows.spelled is);
+  accepted = λ takes short read write. inl refl;
+  fault_of_tokens = λ f may fault short read. absurd (not_both bytes ran.follows.lines may.0 ran.follows.spelled may.1);
+  not_built = λ at x lacks program short read. absurd (not_both bytes ran.follows.lines at ran.follows.spelled lacks);
   too_long = λ long read. absurd (omega (arith, ran.whole.short));
 }
 exact_after (ending.WriteFault place) bytes budget source out history errors end ran cause = record {
-  accepted = λ lines spelled short read write. absurd (write cause.1);
-  fault_of_tokens = λ place f is fault short read. absurd (not_both bytes ran.follows.lines place ran.follows.spelled is);
-  not_built = λ place x is program short read. absurd (not_both bytes ran.follows.lines place ran.follows.spelled is);
+  accepted = λ takes short read write. absurd (write cause.1);
+  fault_of_tokens = λ f may fault short read. absurd (not_both bytes ran.follows.lines may.0 ran.follows.spelled may.1);
+  not_built = λ at x lacks program short read. absurd (not_both bytes ran.follows.lines at ran.follows.spelled lacks);
   too_long = λ long read. absurd (omega (arith, ran.whole.short));
 }
 exact_after ending.NoMemory bytes budget source out history errors end ran cause = record {
-  accepted = λ lines spelled short read write. inr refl;
-  fault_of_tokens = λ place f is fault short read. inr refl;
-  not_built = λ place x is program short read. inr refl;
+  accepted = λ takes short read write. inr refl;
+  fault_of_tokens = λ f may fault short read. inr refl;
+  not_built = λ at x lacks program short read. inr refl;
   too_long = λ long read. inr refl;
 }
+exact_after ending.Told bytes budget source out history errors end ran cause = absurd cause
 exact_after ending.Usage bytes budget source out history errors end ran cause = absurd cause
 exact_after (ending.Refused refusal) bytes budget source out history errors end ran cause = absurd cause
 exact_after ending.SourceTooLong bytes budget source out history errors end ran cause = absurd cause
 exact_after (ending.ReadFault place) bytes budget source out history errors end ran cause = absurd cause
 
-pub exact : RefusalsAreExact → (e : Ending) (bytes : List ℕ) (budget : ℕ) (source : Reading) (out : Writing) (history : List Entry) (errors : List ℕ) → Cause e bytes budget source out history errors → IsExact e bytes source out
-exact law e bytes budget source out history errors (inl before) = exact_before law e bytes source out before.0
+pub exact : RefusalsAreExact → (e : Ending) (bytes : List ℕ) (budget : ℕ) (source : Reading) (out : Writing) (history : List Entry) (errors : List ℕ) → Cause e bytes budget source out history errors → IsExact list_of_sums ending.Finished e bytes source out
+exact law e bytes budget source out history errors (inl before) = exact_before law list_of_sums ending.Finished e bytes source out before.0
 exact law e bytes budget source out history errors (inr ran) = exact_after e bytes budget source out history errors ran.0 ran.1 ran.2

@@ -9,5 +9,7 @@ pub mod EndsOfRuns
 pub mod Exactness
 pub mod Refusals
 pub mod Reports
+pub mod Tellings
 pub mod CommandLines
 pub mod OneProgram
+pub mod Deciding

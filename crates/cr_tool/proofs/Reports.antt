@@ -6,7 +6,7 @@ use Rattle.cr_io.specs.declared.source.Failed.{Failed}
 use Rattle.cr_io.specs.Faults.{HasCause}
 use Rattle.cr_io.specs.Sink.{Appends, AppendsFront}
 use Rattle.cr_schedule.specs.declared.entry.Entry.{Entry}
-use Rattle.cr_tool.specs.declared.ended.Ended.{Ended}
+use Rattle.cr_tool.specs.declared.report.Ended.{Ended}
 use Rattle.cr_tool.specs.declared.ending.Ending.{Ending}
 use Rattle.cr_tool.specs.declared.ending.Ending.TheVariants as ending
 use Rattle.cr_tool.specs.declared.report.Report.{Report}
@@ -17,17 +17,20 @@ use Rattle.cr_tool.specs.Words.{IsRunLine}
 use Rattle.cr_tool.specs.State.{State}
 use Rattle.cr_tool.specs.Endings.{closing}
 use Rattle.cr_tool.specs.Closed.{text_by}
-use Rattle.cr_tool.specs.Answer.{Reading, Writing, Writes, CauseAfter, IsReport, RefusalsAreExact}
-use Rattle.cr_tool.specs.Opened.{LineIs, IsProgram}
+use Rattle.cr_tool.specs.Outside.{Reading, Writing, ReadsWell, Writes}
+use Rattle.cr_tool.specs.Refusals.{list_of_sums, RefusalsAreExact}
+use Rattle.cr_tool.specs.Run.{CauseAfter, IsReport}
+use Rattle.cr_tool.specs.Opened.{LineIs, IsClosed, IsProgram}
 use Rattle.cr_tool.specs.Ended.{IsEndOfRun}
 use Rattle.cr_tool.specs.Reported.{IsEnded, IsFinished}
-use Rattle.cr_tool.proofs.EndsOfRuns.{appends_none}
-use Rattle.cr_tool.proofs.Closings.{told_bytes}
+use Rattle.cr_tool.proofs.EndsOfRuns.{left_alone, untouched}
+use Rattle.cr_tool.proofs.Closings.{closed_memory}
 use Rattle.cr_tool.proofs.Exactness.{exact}
 
 -- the line that an ending carries is its closing line
 pub text_is : (bytes : List ℕ) (e : Ending) (text : List ℕ) → LineIs bytes e text → text_by e text ≡ closing bytes e
 text_is bytes (ending.Refused refusal) text is = is
+text_is bytes ending.Told text is = refl
 text_is bytes ending.Finished text is = refl
 text_is bytes ending.Usage text is = refl
 text_is bytes ending.SourceTooLong text is = refl
@@ -46,6 +49,7 @@ writes_by sink text (Err failed) ok err cause = record { whole = λ none. absurd
 -- no refusal comes after a run
 line_after : (bytes text : List ℕ) (e : Ending) (budget : ℕ) (out : Writing) (history : List Entry) (end : State) → CauseAfter e budget out history end → LineIs bytes e text
 line_after bytes text (ending.Refused refusal) budget out history end cause = absurd cause
+line_after bytes text ending.Told budget out history end cause = tt
 line_after bytes text ending.Finished budget out history end cause = tt
 line_after bytes text ending.Usage budget out history end cause = tt
 line_after bytes text ending.SourceTooLong budget out history end cause = tt
@@ -70,16 +74,18 @@ ended_run source out lines ended opened run = record {
   );
 }
 
+-- nothing was run of a source that is no list of sums
+pub ended_closed : (source : Reading) (written : Option (List ℕ)) (faults : ℕ) (ended : Ended) → IsClosed list_of_sums source ended.closed → ended.history.entries ≡ [] → IsEnded source (left_alone written faults) ended
+ended_closed source written faults ended is none = record {
+  bytes = is.bytes;
+  told = is.told;
+  line = is.line;
+  cause = λ budget enough. inl (is.cause, record { no_history = none; no_errors = refl; no_output = untouched written faults });
+}
+
 -- nothing was done, since memory ran out before
-pub ended_before : (source : Reading) (written : Option (List ℕ)) (faults : ℕ) (ended : Ended) → ended.closed.ending ≡ ending.NoMemory → ended.history.entries ≡ [] → IsEnded source (record { written = written; written' = written; faults = faults; faults' = faults }) ended
-ended_before source written faults ended is none =
-    let some = told_bytes source.left in
-    record {
-      bytes = some.0;
-      told = some.1;
-      line = rw is tt;
-      cause = λ budget enough. rw (is, none) (inl (tt, record { no_history = refl; no_errors = refl; no_output = appends_none written }));
-    }
+pub ended_before : (source : Reading) (written : Option (List ℕ)) (faults : ℕ) (ended : Ended) → ended.closed.ending ≡ ending.NoMemory → ended.history.entries ≡ [] → ReadsWell source → IsEnded source (left_alone written faults) ended
+ended_before source written faults ended is none well = ended_closed source written faults ended (closed_memory source ended.closed is well list_of_sums) none
 
 pub reported : RefusalsAreExact → (budget : ℕ) (source : Reading) (out err : Writing) (ended : Ended) (report : Report) → 3 * most_lines ≤ budget → IsEnded source out ended → IsFinished ended err report → IsReport budget source out err report
 reported law budget source out err ended report enough is finished =

@@ -1,6 +1,6 @@
 -- The closing line that an ending carries.
 use Rattle.std.specs.Prelude.{ℕ, List, string_bytes}
-use Rattle.cr_tool.specs.declared.closed.Closed.{Closed}
+use Rattle.cr_tool.specs.declared.ending.Closed.{Closed}
 use Rattle.cr_tool.specs.declared.ending.Ending.{Ending}
 use Rattle.cr_tool.specs.declared.ending.Ending.TheVariants as ending
 use Rattle.cr_tool.specs.Endings.{fixed}

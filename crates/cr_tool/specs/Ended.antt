@@ -1,7 +1,7 @@
 -- What a run comes to.
 use Rattle.std.specs.Prelude.{◌≡◌, ℕ, ◌*◌, ◌≤◌, List, [], Option, Some, None}
 use Rattle.cr_schedule.specs.Entry.{spent}
-use Rattle.cr_tool.specs.declared.ended.Ended.{Ended}
+use Rattle.cr_tool.specs.declared.report.Ended.{Ended}
 use Rattle.cr_tool.specs.declared.ending.Ending.{Ending}
 use Rattle.cr_tool.specs.declared.ending.Ending.TheVariants as ending
 use Rattle.cr_tool.specs.declared.ending.Which.TheVariants as which
@@ -11,7 +11,8 @@ use Rattle.cr_tool.specs.declared.sums.Line.{Line}
 use Rattle.cr_tool.specs.Sums.{most_lines}
 use Rattle.cr_tool.specs.State.{State, start, run}
 use Rattle.cr_tool.specs.Program.{program}
-use Rattle.cr_tool.specs.Answer.{Writing, CauseAfter}
+use Rattle.cr_tool.specs.Outside.{Writing}
+use Rattle.cr_tool.specs.Run.{CauseAfter}
 
 -- the ending of an evaluation that stopped for this reason
 abbrev pub ending_of : Option Stop → Ending

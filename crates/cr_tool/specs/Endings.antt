@@ -12,6 +12,7 @@ use Rattle.cr_tool.specs.declared.ending.Which.{Which}
 use Rattle.cr_tool.specs.declared.ending.Which.TheVariants as which
 
 abbrev pub status_of : Ending → ℕ
+status_of ending.Told = 0
 status_of ending.Finished = 0
 status_of ending.Usage = 2
 status_of (ending.Refused refusal) = 3
@@ -57,6 +58,7 @@ line text = text ++ 10 ∷ []
 
 -- the closing line of an ending that speaks of no place
 abbrev pub fixed : Ending → List ℕ
+fixed ending.Told = []
 fixed ending.Finished = []
 fixed ending.Usage = line (codes "usage: crystal_ec COMMAND FILE [TRACE] [--workers N] [--budget N] [--trace FILE]")
 fixed (ending.Refused refusal) = []

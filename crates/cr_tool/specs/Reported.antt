@@ -1,14 +1,15 @@
 -- What a command comes to, and its report.
-use Rattle.std.specs.Prelude.{◌≡◌, ◌⊎◌, ℕ, ◌*◌, ◌≤◌, List, [], string_bytes}
-use Rattle.cr_tool.specs.declared.ended.Ended.{Ended}
+use Rattle.std.specs.Prelude.{◌≡◌, ℕ, ◌*◌, ◌≤◌, List, [], string_bytes}
 use Rattle.cr_tool.specs.declared.ending.Ending.{Ending}
 use Rattle.cr_tool.specs.declared.ending.Ending.TheVariants as ending
+use Rattle.cr_tool.specs.declared.report.Ended.{Ended}
+use Rattle.cr_tool.specs.declared.report.Report.{Report}
 use Rattle.cr_tool.specs.declared.words.WordsFault.{WordsFault}
 use Rattle.cr_tool.specs.declared.words.WordsFault.TheVariants as fault
-use Rattle.cr_tool.specs.declared.report.Report.{Report}
 use Rattle.cr_tool.specs.Sums.{most_lines}
 use Rattle.cr_tool.specs.Endings.{status_of, closing}
-use Rattle.cr_tool.specs.Answer.{Reading, Writing, Writes, Cause, IsIdle}
+use Rattle.cr_tool.specs.Outside.{Reading, Writing, Writes}
+use Rattle.cr_tool.specs.Run.{Cause}
 use Rattle.cr_tool.specs.Opened.{Tells, LineIs}
 
 -- What reading a source and running its program comes to, with its cause. There are no error lines.
@@ -29,10 +30,3 @@ pub record IsFinished (ended : Ended) (err : Writing) (report : Report) : Type 0
 abbrev pub ending_of : WordsFault → Ending
 ending_of fault.Usage = ending.Usage
 ending_of fault.NoMemory = ending.NoMemory
-
--- A report on words that are no command line.
-pub record IsNoCommand (out err : Writing) (report : Report) : Type 0 where
-  pub usage : (report.ending ≡ ending.Usage) ⊎ (report.ending ≡ ending.NoMemory)
-  pub status : report.status ≡ status_of report.ending
-  pub idle : IsIdle report.history.entries [] out
-  pub line : Writes err (closing [] report.ending)

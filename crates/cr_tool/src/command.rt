@@ -1,88 +1,29 @@
+// The one call that does what a command line says.
 ghost use Rattle.std.specs.Prelude.{◌≡◌, List, ℕ};
 ghost use Rattle.cr_tool.specs.Words.{Says};
+ghost use Rattle.cr_tool.specs.declared.words.Words.{Words as Said};
 ghost use Rattle.cr_tool.specs.declared.words.Words.TheVariants as said;
 ghost use Rattle.cr_tool.specs.declared.words.RunWords.{RunWords as RunSaid};
-ghost use Rattle.cr_tool.specs.declared.words.Words.{Words as Said};
-ghost use Rattle.cr_tool.specs.Answer.{reading, writing, IsReport};
-ghost use Rattle.cr_tool.specs.Reported.{ending_of, IsEnded, IsFinished, IsNoCommand};
+ghost use Rattle.cr_tool.specs.declared.words.StillWords.{StillWords as StillSaid};
+ghost use Rattle.cr_tool.specs.Outside.{reading, writing};
+ghost use Rattle.cr_tool.specs.Answer.{IsNoCommand};
+ghost use Rattle.cr_tool.specs.Run.{IsReport};
+ghost use Rattle.cr_tool.specs.Still.{IsStillReport};
+ghost use Rattle.cr_tool.specs.Reported.{ending_of};
 
-use crate::closing::status_of;
-use crate::ended::Ended;
 use crate::ending::Ending;
 use crate::laws::refusals_are_exact;
-use crate::opening::open;
 use crate::reading_words::read_words;
-use crate::report::{Ran, Report};
-use crate::running::run_lines;
-use crate::words::{RunWords, Words, WordsFault};
-use cr_io::{Gate, Sink, Source, put_all};
+use crate::report::{Ended, Ran, make_report};
+use crate::running::run_command;
+use crate::still::still_command;
+use crate::words::{Words, WordsFault};
+use cr_io::{Gate, Sink, Source};
 use cr_schedule::History;
 use cr_value::Text;
 use std::alloc::Global;
 use std::sync::Wait;
 use std::thread::Threads;
-
-/// Reads a source and runs its program.
-fn read_and_run<S: Source, K: Sink>(alloc: Global, source: &mut S, out: &mut K) -> Ended
-    requires fits { (sink : K) (text : List ℕ) → K.fits sink text }
-    ensures { IsEnded (reading S.left S.met_end S.faults source.old source.new) (writing K.written K.faults out.old out.new) result }
-{
-    match open(alloc, source) {
-        Ok(lines) => run_lines(alloc, &lines, out),
-        Err(closed) => Ended {
-            closed,
-            history: History::new(alloc),
-        },
-    }
-}
-
-/// Writes the closing line, and makes the report. A fault while it is written changes nothing.
-fn make_report<E: Sink>(err: &mut E, ended: Ended) -> Report
-    requires fits { (sink : E) (text : List ℕ) → E.fits sink text }
-    ensures { IsFinished ended (writing E.written E.faults err.old err.new) result }
-{
-    let Ended { closed, history } = ended;
-    let _ = put_all(err, closed.text().as_bytes());
-    Report {
-        status: status_of(closed.ending),
-        ending: closed.ending,
-        history,
-    }
-}
-
-/// Runs the program of a source with these words, which are such as `read_words` gives. It may wait, and promises
-/// its clause if it returns. The trace is written to `new_trace` only where the words ask for one.
-pub fn run_command<
-    Rt: Threads + Wait + Sync,
-    S: Source,
-    K: Sink + Send + Drop,
-    E: Sink + Send + Drop,
-    R: Sink,
-    G: Gate,
->(
-    rt: &Rt,
-    alloc: Global,
-    words: &RunWords,
-    source: &mut S,
-    out: K,
-    err: E,
-    new_trace: &mut R,
-    gate: &G,
-) -> Ran<K, E>
-    requires words { (line : List (List ℕ)) × Says line (said.Run words.now) }
-    requires out_fits { (sink : K) (text : List ℕ) → K.fits sink text }
-    requires err_fits { (sink : E) (text : List ℕ) → E.fits sink text }
-    ensures report { IsReport words.now.budget (reading S.left S.met_end S.faults source.old source.new)
-        (writing K.written K.faults out result.out) (writing E.written E.faults err result.err) result.report }
-    ensures trace { new_trace.new ≡ new_trace.old }
-{
-    refusals_are_exact();
-    let mut out = out;
-    let mut err = err;
-    let ended = read_and_run(alloc, source, &mut out);
-    let report = make_report(&mut err, ended);
-    Ran { report, out, err }
-}
 
 /// The ending of words that are not read.
 fn ending_of(fault: WordsFault) -> Ending
@@ -120,6 +61,8 @@ pub fn tool<
     requires err_fits { (sink : E) (text : List ℕ) → E.fits sink text }
     ensures command { (run : RunSaid) → Says words.now (said.Run run) → IsReport run.budget (reading S.left S.met_end S.faults source.old source.new)
         (writing K.written K.faults out result.out) (writing E.written E.faults err result.err) result.report }
+    ensures still { (still : StillSaid) → Says words.now (said.Still still) → IsStillReport still.command (reading S.left S.met_end S.faults source.old source.new)
+        (writing K.written K.faults out result.out) (writing E.written E.faults err result.err) result.report }
     ensures no_command { ((words_said : Said) → Says words.now words_said → ⊥) → IsNoCommand (writing K.written K.faults out result.out)
         (writing E.written E.faults err result.err) result.report }
     ensures unread { ((words_said : Said) → Says words.now words_said → ⊥) → source.new ≡ source.old }
@@ -127,9 +70,12 @@ pub fn tool<
     ensures new_trace { new_trace.new ≡ new_trace.old }
 {
     match read_words(alloc, words) {
-        Ok(said) => {
-            let Words::Run(run) = said;
-            run_command(rt, alloc, &run, source, out, err, new_trace, gate)
+        Ok(Words::Run(run)) => run_command(rt, alloc, &run, source, out, err, new_trace, gate),
+        Ok(Words::Still(still)) => {
+            let mut out = out;
+            let mut err = err;
+            let report = still_command(alloc, &still, source, old_trace, &mut out, &mut err);
+            Ran { report, out, err }
         }
         Err(fault) => {
             refusals_are_exact();

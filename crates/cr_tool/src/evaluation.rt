@@ -1,4 +1,5 @@
-ghost use Rattle.std.specs.Prelude.{◌≡◌, ◌≤◌, ◌<◌, ◌+◌, ◌*◌, ◌^◌, List, ℕ, pos, length, IfOk, OnOk, OnErr, IsErrOf};
+// The evaluation of a list of sums.
+ghost use Rattle.std.specs.Prelude.{◌≡◌, ◌≢◌, ◌≤◌, ◌<◌, ◌+◌, ◌*◌, ◌^◌, List, ℕ, pos, length, IfOk, OnOk, OnErr, IsErrOf};
 ghost use Rattle.std.specs.List.{AllByRecursion};
 ghost use Rattle.cr_io.specs.Faults.{Rose};
 ghost use Rattle.cr_io.specs.Sink.{Appends, AppendsFront};
@@ -76,7 +77,7 @@ fn puts<K: Sink>(alloc: Global, sum: Sum, out: &mut K) -> Result<(), Stop>
     ensures no_memory { IsErrOf result Stop.NoMemory → out.new ≡ out.old }
     ensures failed { IsErrOf result Stop.Failed → AppendsFront (K.written out.old) (output_line sum) (K.written out.new) }
     ensures fault { IsErrOf result Stop.Failed → Rose (K.faults out.old) (K.faults out.new) }
-    ensures later { K.faults out.old ≤ K.faults out.new }
+    ensures steady { OnOk result (K.faults out.new ≡ K.faults out.old) }
 {
     let line = line_of(alloc, sum)?;
     put_all(out, &line)?;
@@ -126,6 +127,7 @@ pub fn evaluate<K: Sink>(alloc: Global, lines: &[Line], out: &mut K) -> Evaluate
     requires fits { (sink : K) (text : List ℕ) → K.fits sink text }
     ensures written { HasWritten (sums_of lines.now) (K.written out.old) (K.written out.new) result }
     ensures fault { result.stop ≡ Some Stop.Failed → Rose (K.faults out.old) (K.faults out.new) }
+    ensures steady { result.stop ≢ Some Stop.Failed → K.faults out.new ≡ K.faults out.old }
     ensures bound { result.turns ≤ 3 * most_lines }
 {
     let mut turns = 0;

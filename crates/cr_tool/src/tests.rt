@@ -70,9 +70,10 @@ fn answer<R: Threads + Wait + Sync>(
     ))
 }
 
-/// What one program writes, and its status.
+/// What one command writes of one program, and its status.
 #[derive(Clone, Copy)]
 struct Case {
+    command: &'static str,
     text: &'static str,
     out: &'static str,
     err: &'static str,
@@ -81,6 +82,17 @@ struct Case {
 
 const fn writes(text: &'static str, out: &'static str, err: &'static str, status: u8) -> Case {
     Case {
+        command: "run",
+        text,
+        out,
+        err,
+        status,
+    }
+}
+
+const fn formats(text: &'static str, out: &'static str, err: &'static str, status: u8) -> Case {
+    Case {
+        command: "format",
         text,
         out,
         err,
@@ -102,7 +114,13 @@ fn check<R: Abort + Threads + Wait + Sync>(
         write_fails: 0,
     };
     let text = case.text;
-    let ran = answer(rt, alloc, &["run", "a.cr"], text.as_bytes(), &outside)?;
+    let ran = answer(
+        rt,
+        alloc,
+        &[case.command, "a.cr"],
+        text.as_bytes(),
+        &outside,
+    )?;
     assert_eq!(rt; ran.out.bytes(), case.out.as_bytes(), "{text}");
     assert_eq!(rt; ran.err.bytes(), case.err.as_bytes(), "{text}");
     assert_eq!(rt; ran.report.status, case.status, "{text}");
@@ -143,6 +161,12 @@ fn sums_and_refusals(rt: HostRuntime) -> Result<(), Fail> {
         writes("puts -1", "", unbuilt, 3),
         writes("puts 1\r\n", "", unbuilt, 3),
         writes(" ", "", unbuilt, 3),
+        // `format` takes every program.
+        formats("puts 1+2 if true", "if true\n  puts(1 + 2)\nend\n", "", 0),
+        formats("# a\n\nx = 1 # b\n", "x = 1\n", "", 0),
+        formats("", "", "", 0),
+        formats("puts 1 +\nputs )", "", "2:6: P1 unexpected token\n", 3),
+        formats("puts )\nputs 01", "", "2:6: L5 bad number\n", 3),
     ];
     for case in cases {
         check(&rt, rt.alloc(), case, 1)?;
@@ -153,7 +177,7 @@ fn sums_and_refusals(rt: HostRuntime) -> Result<(), Fail> {
 
 #[test]
 fn words_that_are_no_command_line(rt: HostRuntime) -> Result<(), Fail> {
-    let lines: [&[&str]; 8] = [
+    let lines: [&[&str]; 10] = [
         &[],
         &["run"],
         &["run", ""],
@@ -162,6 +186,8 @@ fn words_that_are_no_command_line(rt: HostRuntime) -> Result<(), Fail> {
         &["run", "a.cr", "b.cr"],
         &["--help"],
         &["check", "a.cr"],
+        &["format"],
+        &["format", "a.cr", "b.cr"],
     ];
     for line in lines {
         let ran = answer(&rt, rt.alloc(), line, b"puts 1", &SOUND)?;
@@ -202,6 +228,20 @@ fn the_outside_fails(rt: HostRuntime) -> Result<(), Fail> {
     assert_eq!(rt; ran.report.status, 6);
     assert_eq!(rt; ran.out.bytes().len(), 0);
     assert_eq!(rt; ran.err.bytes(), b"read fault: source\n".as_slice());
+    Ok(())
+}
+
+#[test]
+fn the_output_fails_a_still_command(rt: HostRuntime) -> Result<(), Fail> {
+    let write = Outside {
+        piece: 4,
+        read_fails: 0,
+        write_fails: 2,
+    };
+    let ran = answer(&rt, rt.alloc(), &["format", "a.cr"], b"puts 1\n", &write)?;
+    assert_eq!(rt; ran.report.ending, Ending::WriteFault(Which::Out));
+    assert_eq!(rt; ran.out.bytes(), b"puts".as_slice());
+    assert_eq!(rt; ran.err.bytes(), b"write fault: out\n".as_slice());
     Ok(())
 }
 

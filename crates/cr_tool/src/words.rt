@@ -1,3 +1,4 @@
+// What a command line says.
 use cr_value::Text;
 
 /// What is to be run.
@@ -19,10 +20,28 @@ pub struct RunWords {
     pub trace: Option<Text>,
 }
 
+/// A command that runs nothing.
+#[derive(Clone, Copy, Debug, PartialEq, Eq)]
+pub enum Still {
+    /// `format`: the layout of the program.
+    Format,
+}
+
+/// What a still command says.
+#[derive(Debug, Drop)]
+pub struct StillWords {
+    pub command: Still,
+    /// The file of the program.
+    pub file: Text,
+    /// The file of a trace, where the command takes one.
+    pub trace: Option<Text>,
+}
+
 /// What a command line says.
 #[derive(Debug, Drop)]
 pub enum Words {
     Run(RunWords),
+    Still(StillWords),
 }
 
 /// Why the words are not read.

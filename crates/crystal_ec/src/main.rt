@@ -43,6 +43,7 @@ fn file<R: Files<File = File> + Alloc<A = Global>>(rt: &R, words: &[Text]) -> Op
             let Job::File(name) = &run.job;
             fs::open(rt, name.as_str()).ok()
         }
+        Ok(Words::Still(still)) => fs::open(rt, still.file.as_str()).ok(),
         Err(_) => None,
     }
 }

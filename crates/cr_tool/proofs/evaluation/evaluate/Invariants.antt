@@ -13,5 +13,5 @@ invariant-loop-line g l =
       turns_are : l.turns ≡ turns_of done;
       bound : l.turns ≤ 3 * l.line-index;
       writes : Appends (written l.initial.out) (output_of done) (written l.out);
-      later : faults l.initial.out ≤ faults l.out;
+      steady : faults l.out ≡ faults l.initial.out;
     }

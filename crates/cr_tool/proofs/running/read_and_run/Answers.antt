@@ -1,6 +1,6 @@
-use Rattle.cr_tool.specs.Answer.{reading, writing}
+use Rattle.cr_tool.specs.Outside.{reading, writing}
 use Rattle.cr_tool.proofs.Reports.{ended_run}
-use Rattle.cr_tool.proofs.command.read_and_run.Goals as goal
+use Rattle.cr_tool.proofs.running.read_and_run.Goals as goal
 
 pub returns-in-Ok : goal.returns-in-Ok
 returns-in-Ok g c =

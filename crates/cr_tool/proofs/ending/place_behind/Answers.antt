@@ -1,7 +1,7 @@
 use Rattle.std.proofs.Common.{arith}
 use Rattle.cr_tool.proofs.Places.{line_feed_more, other_more}
-use Rattle.cr_tool.proofs.closing.place_behind.Goals as goal
-use Rattle.cr_tool.proofs.closing.place_behind.Goals.{then-byte-eq10, else-byte-eq10}
+use Rattle.cr_tool.proofs.ending.place_behind.Goals as goal
+use Rattle.cr_tool.proofs.ending.place_behind.Goals.{then-byte-eq10, else-byte-eq10}
 
 pub loop-byte-preserved : goal.loop-byte-preserved
 loop-byte-preserved c =

@@ -1,6 +1,6 @@
-use Rattle.cr_tool.specs.Answer.{reading, writing}
+use Rattle.cr_tool.specs.Outside.{reading, writing}
 use Rattle.cr_tool.proofs.Reports.{enough, reported}
-use Rattle.cr_tool.proofs.command.run_command.Goals as goal
+use Rattle.cr_tool.proofs.running.run_command.Goals as goal
 
 pub returns-clause-report : goal.returns-clause-report
 returns-clause-report g c =

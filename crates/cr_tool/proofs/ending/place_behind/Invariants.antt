@@ -1,6 +1,6 @@
 use Rattle.std.proofs.Common.{◌≡◌, ◌+◌, ◌≤◌, take}
 use Rattle.cr_tool.specs.Endings.{place_after}
-use Rattle.cr_tool.proofs.closing.place_behind.Given as goal
+use Rattle.cr_tool.proofs.ending.place_behind.Given as goal
 
 abbrev pub invariant-loop-byte : goal.invariant-loop-byte
 invariant-loop-byte l = record {

@@ -1,7 +1,7 @@
 use Rattle.std.proofs.Common.{refl}
-use Rattle.cr_tool.specs.Answer.{writing}
+use Rattle.cr_tool.specs.Outside.{writing}
 use Rattle.cr_tool.proofs.Reports.{text_is, writes_by}
-use Rattle.cr_tool.proofs.command.make_report.Goals as goal
+use Rattle.cr_tool.proofs.report.make_report.Goals as goal
 
 pub returns : goal.returns
 returns g c =
