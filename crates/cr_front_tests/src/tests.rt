@@ -1,6 +1,8 @@
 //! Texts, and what the parser answers to them.
 
+mod calls;
 mod hostile;
+mod layouts;
 mod prelude;
 mod refusals;
 mod shape;
@@ -10,6 +12,7 @@ use cr_decl::program;
 use cr_descent::tokens_end_once;
 use cr_grammar::Tree;
 use cr_lex::tokens;
+use cr_pretty::write_tree;
 use cr_readers::ParseFault;
 use cr_syntax::MAX_SOURCE_BYTES;
 use shape::shape;
@@ -41,6 +44,33 @@ fn shapes_as_wanted(rt: &impl Abort, alloc: Global, rows: &[(&str, &str)]) -> Re
     for (text, want) in rows {
         let got = shown(alloc, answer(rt, alloc, text)?)?;
         assert_eq!(rt; got.as_str(), *want, "at {text}");
+    }
+    Ok(())
+}
+
+fn layout_of(alloc: Global, tree: &Tree) -> Result<Vec<u8>, Fail> {
+    Ok(write_tree(alloc, tree)?)
+}
+
+fn words_of(alloc: Global, fault: ParseFault) -> Result<Vec<u8>, Fail> {
+    Ok(format!(in alloc; "{fault:?}")?.into_bytes())
+}
+
+/// The layout of the program, or the fault in words.
+fn laid_out(alloc: Global, answer: Result<Tree, ParseFault>) -> Result<Vec<u8>, Fail> {
+    match answer {
+        Ok(tree) => layout_of(alloc, &tree),
+        Err(fault) => words_of(alloc, fault),
+    }
+}
+
+/// Each text is laid out as its row says, and what is laid out is laid out as it stands.
+fn laid_out_as_wanted(rt: &impl Abort, alloc: Global, rows: &[(&str, &str)]) -> Result<(), Fail> {
+    for (text, want) in rows {
+        let got = laid_out(alloc, answer(rt, alloc, text)?)?;
+        assert!(rt; got.as_slice() == want.as_bytes(), "at {text}");
+        let again = laid_out(alloc, answer(rt, alloc, want)?)?;
+        assert!(rt; again.as_slice() == want.as_bytes(), "at {want}");
     }
     Ok(())
 }

@@ -1,6 +1,6 @@
 //! Texts, and the trees that they spell.
 
-use crate::tests::{fault, shapes_as_wanted};
+use crate::tests::shapes_as_wanted;
 use std::test::Fail;
 
 #[test]
@@ -556,9 +556,28 @@ end
 puts total
 ";
 
+/// Its tree, an item a line.
+const WORKERS_TREE: &str = concat!(
+    "{(module Scoring {(def score(x:Int32):Int32 {x})}) ",
+    "(class Box(T) {(getter value:T) (def initialize(@value:T) {})}) ",
+    "(class Worker {(include Scoring) (def initialize(@jobs:Channel(:Int32) @results:Channel(:Box(:Int32|Nil))) {}) ",
+    "(def run {(while (= job (.receive? @jobs)) {(.send @results (new Box(:Int32|Nil) (score job)))}) ",
+    "(.send @results (new Box(:Int32|Nil) nil))})}) ",
+    "(= jobs (new Channel(:Int32) 16)) ",
+    "(= results (new Channel(:Box(:Int32|Nil)) 16)) ",
+    "(= ctx (new Fiber::ExecutionContext::Parallel \"pool\" 4)) ",
+    "(.times 4 {(spawn ctx {(.run (new Worker jobs results))})}) ",
+    "(spawn {(= i 1) (while (<= i 200) {(.send jobs i) (+= i 1)}) (.close jobs)}) ",
+    "(= seen %{of :Int32=>:Int32}) ",
+    "(= left 4) ",
+    "(while (> left 0) {(= v (.value (.receive results))) ",
+    "(case v (in :Int32 {(= ([] seen v) v)}) (in :Nil {(-= left 1)}))}) ",
+    "(= total 0) ",
+    "(.each seen {|k w| (+= total w)}) ",
+    "(puts total)}",
+);
+
 #[test]
-fn a_whole_program_is_accepted(rt: HostRuntime) -> Result<(), Fail> {
-    let workers = fault(&rt, rt.alloc(), WORKERS)?;
-    assert_eq!(rt; workers, None);
-    Ok(())
+fn a_whole_program_has_its_tree(rt: HostRuntime) -> Result<(), Fail> {
+    shapes_as_wanted(&rt, rt.alloc(), &[(WORKERS, WORKERS_TREE)])
 }
