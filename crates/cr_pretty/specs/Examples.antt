@@ -1,7 +1,6 @@
 -- Trees and their text.
 use Rattle.std.specs.Prelude.{◌≡◌, ℕ, pos, neg_ℤ, Bool, true, false, List, [], ◌∷◌, codes, Option, Some, None}
 use Rattle.cr_grammar.specs.declared.operator.Binary.TheVariants as binary
-use Rattle.cr_grammar.specs.declared.operator.Unary.{Unary}
 use Rattle.cr_grammar.specs.declared.operator.Unary.TheVariants as prefix
 use Rattle.cr_grammar.specs.declared.operator.Assignment.TheVariants as assignment
 use Rattle.cr_grammar.specs.declared.tree.Tree.{Tree}

@@ -1,7 +1,7 @@
 -- The layout of a tree: what is written of each construct, line by line. One item or statement stands on a line, and a level
 -- is two spaces. What a tree does not hold is not written: remarks, empty lines, `then`, the form of a block, the `_` in
 -- digits. Arguments stand in parentheses, and an empty list of them is left out.
-use Rattle.std.specs.Prelude.{ℕ, suc, ◌+◌, ◌-◌, ◌*◌, Bool, true, false, ◌||◌, if◌then◌else◌, ◌==◌, List, [], ◌∷◌, ◌++◌, length, take, map, Option, Some, None}
+use Rattle.std.specs.Prelude.{ℕ, suc, ◌-◌, ◌*◌, Bool, true, false, ◌||◌, if◌then◌else◌, ◌==◌, List, [], ◌∷◌, ◌++◌, length, take, map, Option, Some, None}
 use Rattle.std.specs.Str.{bytes_eq}
 use Rattle.cr_syntax.specs.declared.look.TokenLook.{TokenLook}
 use Rattle.cr_syntax.specs.declared.look.TokenLook.TheVariants as l

@@ -1,4 +1,4 @@
-use Rattle.std.proofs.Common.{List, ℕ, ◌++◌, sym, ap, ◌∙◌}
+use Rattle.std.proofs.Common.{List, ℕ, ◌++◌, ap, ◌∙◌}
 use Rattle.cr_pieces.proofs.Written.{then}
 use Rattle.cr_pretty.proofs.Written.{name_written}
 use Rattle.cr_pretty.proofs.leaf.put_method_name.Goals as goal

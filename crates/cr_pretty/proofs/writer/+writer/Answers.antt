@@ -1,4 +1,4 @@
-use Rattle.std.proofs.Common.{◌≡◌, ℕ, ◌-◌, List, ◌<◌, ◌∷◌, ◌++◌, Bool, map, length, subst, arith}
+use Rattle.std.proofs.Common.{◌≡◌, ◌<◌, ◌++◌, Bool, map, length, subst, arith}
 use Rattle.cr_pieces.specs.Pieces.{text_of}
 use Rattle.cr_pieces.specs.Writes.{Writes}
 use Rattle.cr_pieces.proofs.Written.{then}
