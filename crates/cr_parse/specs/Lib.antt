@@ -1,3 +1,6 @@
+-- What public clauses cite.
+pub mod Calls
+-- What only the readers inside cite.
 pub mod Levels
 pub mod Links
 pub mod Literals
