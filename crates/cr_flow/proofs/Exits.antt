@@ -1,6 +1,7 @@
 -- Single exits of an evaluation.
-use Rattle.std.proofs.Common.{◌≡◌, ◌<◌, ℕ, zero, suc, ◌⊎◌, inl, inr, ⊎_elim, Bool, true, false, List, [], ◌∷◌, Some, refl, sym, ◌∙◌, subst, arith}
-use Rattle.std.specs.Prelude.{if◌then◌else◌, ◌||◌, map, slice_get}
+use Rattle.std.proofs.Common.{◌≡◌, ◌<◌, ◌≤◌, ℕ, zero, suc, ◌⊎◌, inl, inr, ⊎_elim, Bool, true, false, List, [], ◌∷◌, Option, Some, None, refl, sym, ◌∙◌, subst, arith}
+use Rattle.std.specs.Prelude.{if◌then◌else◌, ◌||◌, map, slice_get, nat_lt}
+use Rattle.std.proofs.lemmas.Bool.Decides.{nat_tests}
 use Rattle.cr_base.specs.declared.ids.NodeId.{NodeId}
 use Rattle.cr_core.specs.declared.form.Form.{Form}
 use Rattle.cr_core.specs.declared.form.ScopeId.{ScopeId}
@@ -8,17 +9,22 @@ use Rattle.cr_core.specs.Arena.{Opening, Opens, Turns, Plain, opening}
 use Rattle.cr_flow.specs.declared.variable.Outcome.{Outcome}
 use Rattle.cr_flow.specs.declared.variable.Outcome.TheVariants.{Yes, No}
 use Rattle.cr_flow.specs.declared.outs.Outs.{Outs}
-use Rattle.cr_flow.specs.Outs.{none, join, also, goes_on, jumps, either, stopped, caught_by, caught, chain}
+use Rattle.cr_flow.specs.Outs.{least, none, join, also, goes_on, jumps, either, stopped, caught_by, caught, chain}
+
+-- a use of at most this rank was come to
+abbrev pub within : ℕ → Option ℕ → Bool
+within k None = false
+within k (Some v) = nat_lt v (suc k)
 
 pub data Exit : Type 0 where
-  Found : Exit
+  Found : ℕ → Exit
   Ends : Outcome → Exit
   Leaves : Exit
   Skips : Exit
   Returns : Exit
 
 abbrev pub has : Outs → Exit → Bool
-has o Found = o.found
+has o (Found k) = within k o.found
 has o (Ends Yes) = o.yes
 has o (Ends No) = o.no
 has o Leaves = o.leaves
@@ -44,9 +50,36 @@ pub or_from : (a b : Bool) → (a || b) ≡ true → (a ≡ true) ⊎ (b ≡ tru
 or_from true b e = inl refl
 or_from false b e = inr e
 
+-- ranks
+lower_cases : (a b k : ℕ) (v p q : Bool) → nat_lt a b ≡ v → nat_lt a (suc k) ≡ p → nat_lt b (suc k) ≡ q → nat_lt (if v then a else b) (suc k) ≡ (p || q)
+lower_cases a b k true true q e g h = g
+lower_cases a b k true false true e g h = absurd (grind (arith, nat_tests))
+lower_cases a b k true false false e g h = g
+lower_cases a b k false true true e g h = h
+lower_cases a b k false true false e g h = absurd (grind (arith, nat_tests))
+lower_cases a b k false false q e g h = h
+
+or_none : (v : Bool) → v ≡ (v || false)
+or_none true = refl
+or_none false = refl
+
+within_least : (k : ℕ) (a b : Option ℕ) → within k (least a b) ≡ (within k a || within k b)
+within_least k None b = refl
+within_least k (Some a) None = or_none (nat_lt a (suc k))
+within_least k (Some a) (Some b) = lower_cases a b k (nat_lt a b) (nat_lt a (suc k)) (nat_lt b (suc k)) refl refl refl
+
+pub within_own : (k : ℕ) → within k (Some k) ≡ true
+within_own k = grind (arith, nat_tests)
+
+pub within_off : (j v : ℕ) → j < v → within j (Some v) ≡ false
+within_off j v lt = grind (arith, nat_tests)
+
+pub within_on : (k v : ℕ) → within k (Some v) ≡ true → v ≤ k
+within_on k v e = grind (arith, nat_tests)
+
 -- joins
 has_join : (a b : Outs) (z : Exit) → has (join a b) z ≡ (has a z || has b z)
-has_join a b Found = refl
+has_join a b (Found k) = within_least k a.found b.found
 has_join a b (Ends Yes) = refl
 has_join a b (Ends No) = refl
 has_join a b Leaves = refl
@@ -63,7 +96,7 @@ pub from_join : (a b : Outs) (z : Exit) → Has (join a b) z → Has a z ⊎ Has
 from_join a b z h = or_from (has a z) (has b z) (sym (has_join a b z) ∙ h)
 
 pub no_none : (z : Exit) → Has none z → ⊥
-no_none Found h = cc
+no_none (Found k) h = cc
 no_none (Ends Yes) h = cc
 no_none (Ends No) h = cc
 no_none Leaves h = cc
@@ -84,14 +117,14 @@ from_also false a o z h = inl h
 
 -- jumps
 pub in_jumps : (o : Outs) (z : Exit) → IsJump z → Has o z → Has (jumps o) z
-in_jumps o Found j h = h
+in_jumps o (Found k) j h = h
 in_jumps o (Ends e) j h = absurd j
 in_jumps o Leaves j h = h
 in_jumps o Skips j h = h
 in_jumps o Returns j h = h
 
 pub from_jumps : (o : Outs) (z : Exit) → Has (jumps o) z → IsJump z × Has o z
-from_jumps o Found h = (tt, h)
+from_jumps o (Found k) h = (tt, h)
 from_jumps o (Ends Yes) h = absurd (cc)
 from_jumps o (Ends No) h = absurd (cc)
 from_jumps o Leaves h = (tt, h)
@@ -107,7 +140,7 @@ pub on_ends : (o : Outs) → goes_on o ≡ true → (e : Outcome) × Has o (Ends
 on_ends o h = ⊎_elim (λ (l : o.yes ≡ true). (Yes, l)) (λ (r : o.no ≡ true). (No, r)) (or_from o.yes o.no h)
 
 pub in_either : (o : Outs) (z : Exit) → Has o z → Has (either o) z
-in_either o Found h = h
+in_either o (Found k) h = h
 in_either o (Ends Yes) h = or_left o.yes o.no h
 in_either o (Ends No) h = or_right o.yes o.no h
 in_either o Leaves h = h
@@ -119,7 +152,7 @@ both_either o Yes h = h
 both_either o No h = h
 
 pub from_either : (o : Outs) (z : Exit) → Has (either o) z → (IsJump z × Has o z) ⊎ ((g : Outcome) × (e : Outcome) × (z ≡ Ends g) × Has o (Ends e))
-from_either o Found h = inl (tt, h)
+from_either o (Found k) h = inl (tt, h)
 from_either o (Ends Yes) h = let e = on_ends o h in inr (Yes, e.0, refl, e.1)
 from_either o (Ends No) h = let e = on_ends o h in inr (No, e.0, refl, e.1)
 from_either o Leaves h = inl (tt, h)
@@ -145,13 +178,13 @@ returns_by Plain o h = h
 pub caught_returns : (form : Form) (o : Outs) → Has o Returns → Has (caught form o) Returns
 caught_returns form o h = returns_by (opening form) o h
 
-found_by : (k : Opening) (o : Outs) → Has o Found → Has (caught_by k o) Found
-found_by (Opens scope) o h = h
-found_by Turns o h = h
-found_by Plain o h = h
+found_by : (k : Opening) (o : Outs) (j : ℕ) → Has o (Found j) → Has (caught_by k o) (Found j)
+found_by (Opens scope) o j h = h
+found_by Turns o j h = h
+found_by Plain o j h = h
 
-pub caught_found : (form : Form) (o : Outs) → Has o Found → Has (caught form o) Found
-caught_found form o h = found_by (opening form) o h
+pub caught_found : (j : ℕ) (form : Form) (o : Outs) → Has o (Found j) → Has (caught form o) (Found j)
+caught_found j form o h = found_by (opening form) o j h
 
 -- what they catch
 pub scope_stops : (k : Opening) (o : Outs) (e : Outcome) (scope : ScopeId) → k ≡ Opens scope → Has o Skips → Has (caught_by k o) (Ends e)

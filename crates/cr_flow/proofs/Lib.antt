@@ -6,3 +6,4 @@ pub mod Walked
 pub mod Body
 pub mod Law
 pub mod Flags
+pub mod Forest

@@ -13,7 +13,8 @@ use Rattle.cr_flow.specs.declared.chain.Trail.{Trail}
 use Rattle.cr_flow.specs.Control.{is_test, is_clause, is_choice, has_arm, heads, last, behind}
 use Rattle.cr_flow.specs.Ways.{IsRow, IsHead}
 use Rattle.cr_flow.specs.Chain.{statement_of, condition_of, trail_of, trail_in, first_in, parent_in, LeadsTo, stays, down, IsBehind, IsForward}
-use Rattle.cr_flow.specs.Outs.{none, join, also, goes_on, jumps, either, here, decided, led, leads_on, finished, chain, acted, tested, at_node, own_outs, clause_outs, clauses_outs, arms_outs, inner, caught_by, caught, outs_in, outs_to, reach}
+use Rattle.std.proofs.lemmas.Bool.Decides.{nat_tests}
+use Rattle.cr_flow.specs.Outs.{lower, least, none, join, also, goes_on, jumps, either, here, decided, led, leads_on, finished, chain, acted, tested, at_node, own_outs, clause_outs, clauses_outs, arms_outs, inner, caught_by, caught, outs_in, outs_to, reach}
 
 map_same : (g k : NodeId → Outs) (ps : List NodeId) → ((i : ℕ) (c : NodeId) → slice_get ps i ≡ Some c → g c ≡ k c) → map g ps ≡ map k ps
 map_same g k [] h = refl
@@ -24,7 +25,7 @@ clauses_same g k rows all [] h = refl
 clauses_same g k rows all (c ∷ cs) h =
     ap (λ (o : Outs). clauses_outs g rows (join all o) cs) (h 0 c refl) ∙ clauses_same g k rows (join all (clause_outs k (slice_get rows c.0))) cs (λ i d e. h (suc i) d e)
 
-module _ (rows : List Row) (t : Option NodeId) (x : Variable) (h : IsForward rows) where
+module _ (rows : List Row) (t : NodeId → Option ℕ) (x : Variable) (h : IsForward rows) where
   abbrev SameBehind : (NodeId → Outs) → (NodeId → Outs) → NodeId → Type 0
   SameBehind g k n = (c : NodeId) → n.0 < c.0 → c.0 < length rows → g c ≡ k c
 
@@ -55,8 +56,8 @@ module _ (rows : List Row) (t : Option NodeId) (x : Variable) (h : IsForward row
       let hs = heads r.form r.parts in
       let a = map_same g k hs (λ i c at. let m = h.heads n c i r is at in e c m.later m.there) in
       let b = arms_same g k n r is e in
-      ap (λ (os : List Outs). caught r.form (if is_test r.form then tested t n r.form os else chain none (acted t x n r.form (arms_outs g rows r)) os)) a
-      ∙ ap (λ (o : Outs). caught r.form (if is_test r.form then tested t n r.form (map k hs) else chain none (acted t x n r.form o) (map k hs))) b
+      ap (λ (os : List Outs). caught r.form (if is_test r.form then tested (t n) r.form os else chain none (acted (t n) x r.form (arms_outs g rows r)) os)) a
+      ∙ ap (λ (o : Outs). caught r.form (if is_test r.form then tested (t n) r.form (map k hs) else chain none (acted (t n) x r.form o) (map k hs))) b
 
   deep : (j k : ℕ) (n : NodeId) → n.0 < length rows → length rows ≤ j + n.0 → length rows ≤ k + n.0 → outs_to j rows t x n ≡ outs_to k rows t x n
   deep zero k n lt a b = absurd (omega (arith, lt, a))
@@ -84,16 +85,16 @@ module _ (rows : List Row) (t : Option NodeId) (x : Variable) (h : IsForward row
   reach_none n e = none_to (length rows - n.0) n e
 
   -- of a condition, and of any other node
-  pub inner_test : (n : NodeId) (r : Row) → is_test r.form ≡ true → inner (reach rows t x) rows t x n r ≡ tested t n r.form (map (reach rows t x) (heads r.form r.parts))
-  inner_test n r b = ap (λ (v : Bool). if v then tested t n r.form (map (reach rows t x) (heads r.form r.parts)) else chain none (acted t x n r.form (arms_outs (reach rows t x) rows r)) (map (reach rows t x) (heads r.form r.parts))) b
+  pub inner_test : (n : NodeId) (r : Row) → is_test r.form ≡ true → inner (reach rows t x) rows t x n r ≡ tested (t n) r.form (map (reach rows t x) (heads r.form r.parts))
+  inner_test n r b = ap (λ (v : Bool). if v then tested (t n) r.form (map (reach rows t x) (heads r.form r.parts)) else chain none (acted (t n) x r.form (arms_outs (reach rows t x) rows r)) (map (reach rows t x) (heads r.form r.parts))) b
 
-  pub inner_plain : (n : NodeId) (r : Row) → is_test r.form ≡ false → inner (reach rows t x) rows t x n r ≡ chain none (acted t x n r.form (arms_outs (reach rows t x) rows r)) (map (reach rows t x) (heads r.form r.parts))
-  inner_plain n r b = ap (λ (v : Bool). if v then tested t n r.form (map (reach rows t x) (heads r.form r.parts)) else chain none (acted t x n r.form (arms_outs (reach rows t x) rows r)) (map (reach rows t x) (heads r.form r.parts))) b
+  pub inner_plain : (n : NodeId) (r : Row) → is_test r.form ≡ false → inner (reach rows t x) rows t x n r ≡ chain none (acted (t n) x r.form (arms_outs (reach rows t x) rows r)) (map (reach rows t x) (heads r.form r.parts))
+  inner_plain n r b = ap (λ (v : Bool). if v then tested (t n) r.form (map (reach rows t x) (heads r.form r.parts)) else chain none (acted (t n) x r.form (arms_outs (reach rows t x) rows r)) (map (reach rows t x) (heads r.form r.parts))) b
 
-  pub reach_test : (n : NodeId) (r : Row) → slice_get rows n.0 ≡ Some r → is_test r.form ≡ true → reach rows t x n ≡ caught r.form (tested t n r.form (map (reach rows t x) (heads r.form r.parts)))
+  pub reach_test : (n : NodeId) (r : Row) → slice_get rows n.0 ≡ Some r → is_test r.form ≡ true → reach rows t x n ≡ caught r.form (tested (t n) r.form (map (reach rows t x) (heads r.form r.parts)))
   reach_test n r is b = reach_some n r is ∙ ap (caught r.form) (inner_test n r b)
 
-  pub reach_plain : (n : NodeId) (r : Row) → slice_get rows n.0 ≡ Some r → is_test r.form ≡ false → reach rows t x n ≡ caught r.form (chain none (acted t x n r.form (arms_outs (reach rows t x) rows r)) (map (reach rows t x) (heads r.form r.parts)))
+  pub reach_plain : (n : NodeId) (r : Row) → slice_get rows n.0 ≡ Some r → is_test r.form ≡ false → reach rows t x n ≡ caught r.form (chain none (acted (t n) x r.form (arms_outs (reach rows t x) rows r)) (map (reach rows t x) (heads r.form r.parts)))
   reach_plain n r is b = reach_some n r is ∙ ap (caught r.form) (inner_plain n r b)
 
 -- joins
@@ -106,17 +107,38 @@ or_more : (a b c : Bool) → ((a || b) || c) ≡ (a || (b || c))
 or_more true b c = refl
 or_more false b c = refl
 
-outs_made : (f1 f2 y1 y2 n1 n2 l1 l2 s1 s2 r1 r2 : Bool) → f1 ≡ f2 → y1 ≡ y2 → n1 ≡ n2 → l1 ≡ l2 → s1 ≡ s2 → r1 ≡ r2 → ◌≡◌ {A = Outs} (record { found = f1; yes = y1; no = n1; leaves = l1; skips = s1; returns = r1 }) (record { found = f2; yes = y2; no = n2; leaves = l2; skips = s2; returns = r2 })
+lower_same : (a b : ℕ) → lower (lower a b) b ≡ lower a b
+lower_same a b = grind (arith, nat_tests)
+
+lower_more : (a b c : ℕ) → lower (lower a b) c ≡ lower a (lower b c)
+lower_more a b c = grind (arith, nat_tests)
+
+lower_self : (a : ℕ) → lower a a ≡ a
+lower_self a = grind (arith, nat_tests)
+
+least_same : (a b : Option ℕ) → least (least a b) b ≡ least a b
+least_same None None = refl
+least_same None (Some b) = ap Some (lower_self b)
+least_same (Some a) None = refl
+least_same (Some a) (Some b) = ap Some (lower_same a b)
+
+least_more : (a b c : Option ℕ) → least (least a b) c ≡ least a (least b c)
+least_more None b c = refl
+least_more (Some a) None c = refl
+least_more (Some a) (Some b) None = refl
+least_more (Some a) (Some b) (Some c) = ap Some (lower_more a b c)
+
+outs_made : (f1 f2 : Option ℕ) (y1 y2 n1 n2 l1 l2 s1 s2 r1 r2 : Bool) → f1 ≡ f2 → y1 ≡ y2 → n1 ≡ n2 → l1 ≡ l2 → s1 ≡ s2 → r1 ≡ r2 → ◌≡◌ {A = Outs} (record { found = f1; yes = y1; no = n1; leaves = l1; skips = s1; returns = r1 }) (record { found = f2; yes = y2; no = n2; leaves = l2; skips = s2; returns = r2 })
 outs_made f1 f2 y1 y2 n1 n2 l1 l2 s1 s2 r1 r2 e1 e2 e3 e4 e5 e6 = cc
 
 outs_same : (a b : Outs) → a.found ≡ b.found → a.yes ≡ b.yes → a.no ≡ b.no → a.leaves ≡ b.leaves → a.skips ≡ b.skips → a.returns ≡ b.returns → a ≡ b
 outs_same a b e1 e2 e3 e4 e5 e6 = outs_made a.found b.found a.yes b.yes a.no b.no a.leaves b.leaves a.skips b.skips a.returns b.returns e1 e2 e3 e4 e5 e6
 
 join_same : (a b : Outs) → join (join a b) b ≡ join a b
-join_same a b = outs_same (join (join a b) b) (join a b) (or_same a.found b.found) (or_same a.yes b.yes) (or_same a.no b.no) (or_same a.leaves b.leaves) (or_same a.skips b.skips) (or_same a.returns b.returns)
+join_same a b = outs_same (join (join a b) b) (join a b) (least_same a.found b.found) (or_same a.yes b.yes) (or_same a.no b.no) (or_same a.leaves b.leaves) (or_same a.skips b.skips) (or_same a.returns b.returns)
 
 join_more : (a b c : Outs) → join (join a b) c ≡ join a (join b c)
-join_more a b c = outs_same (join (join a b) c) (join a (join b c)) (or_more a.found b.found c.found) (or_more a.yes b.yes c.yes) (or_more a.no b.no c.no) (or_more a.leaves b.leaves c.leaves) (or_more a.skips b.skips c.skips) (or_more a.returns b.returns c.returns)
+join_more a b c = outs_same (join (join a b) c) (join a (join b c)) (least_more a.found b.found c.found) (or_more a.yes b.yes c.yes) (or_more a.no b.no c.no) (or_more a.leaves b.leaves c.leaves) (or_more a.skips b.skips c.skips) (or_more a.returns b.returns c.returns)
 
 -- what ends with either outcome or with none
 abbrev IsEven : Outs → Type 0
@@ -137,22 +159,22 @@ also_even : (b : Bool) (a o : Outs) → IsEven a → IsEven o → IsEven (also b
 also_even true a o e g = join_even a o e g
 also_even false a o e g = e
 
-decided_even : (t : Option NodeId) (n : NodeId) (c : Outs) → IsEven (decided t n c)
-decided_even t n c = also_even (goes_on c) (jumps c) (here t n) refl refl
+decided_even : (t : NodeId → Option ℕ) (n : NodeId) (c : Outs) → IsEven (decided (t n) c)
+decided_even t n c = also_even (goes_on c) (jumps c) (here (t n)) refl refl
 
-led_even : (t : Option NodeId) (n : NodeId) (g : NodeId → Outs) (c : Outs) (branch : Option NodeId) → IsEven (led t n g c branch)
+led_even : (t : NodeId → Option ℕ) (n : NodeId) (g : NodeId → Outs) (c : Outs) (branch : Option NodeId) → IsEven (led (t n) g c branch)
 led_even t n g c None = decided_even t n c
-led_even t n g c (Some a) = also_even c.yes (decided t n c) (either (g a)) (decided_even t n c) refl
+led_even t n g c (Some a) = also_even c.yes (decided (t n) c) (either (g a)) (decided_even t n c) refl
 
 -- rows that go on as their last part
 abbrev trailed : Bool → Outs → Outs → Outs
 trailed v a o = if v then join a (either o) else a
 
-statement_tested : (t : Option NodeId) (n : NodeId) (a b : Outs) → tested t n f.Seq (a ∷ b ∷ []) ≡ trailed (goes_on a) (decided t n a) b
+statement_tested : (t : NodeId → Option ℕ) (n : NodeId) (a b : Outs) → tested (t n) f.Seq (a ∷ b ∷ []) ≡ trailed (goes_on a) (decided (t n) a) b
 statement_tested t n a b = by a.yes a.no
   where
-    by : (y v : Bool) → also v (also y (also (y || v) (jumps a) (here t n)) (either b)) (either b) ≡ (if y || v then join (also (y || v) (jumps a) (here t n)) (either b) else also (y || v) (jumps a) (here t n))
-    by true true = join_same (join (jumps a) (here t n)) (either b)
+    by : (y v : Bool) → also v (also y (also (y || v) (jumps a) (here (t n))) (either b)) (either b) ≡ (if y || v then join (also (y || v) (jumps a) (here (t n))) (either b) else also (y || v) (jumps a) (here (t n)))
+    by true true = join_same (join (jumps a) (here (t n))) (either b)
     by true false = refl
     by false true = refl
     by false false = refl
@@ -181,7 +203,7 @@ trail_parts r w e = by r.form refl e
     by f.If k e = let s = condition_parts r.parts w e in inr (s.0, k, s.1, s.2)
     by form k e = absurd (cc)
 
-module _ (rows : List Row) (t : Option NodeId) (x : Variable) (h : IsForward rows) where
+module _ (rows : List Row) (t : NodeId → Option ℕ) (x : Variable) (h : IsForward rows) where
   row_of_trail : (n : NodeId) (w : Trail) → trail_in (slice_get rows n.0) ≡ Some w → (r : Row) × (slice_get rows n.0 ≡ Some r) × IsTrail r w
   row_of_trail n w e = by (slice_get rows n.0) refl e
     where
@@ -189,30 +211,30 @@ module _ (rows : List Row) (t : Option NodeId) (x : Variable) (h : IsForward row
       by None is e = absurd (cc)
       by (Some r) is e = (r, is, trail_parts r w e)
 
-  pub trail_is : (n : NodeId) (w : Trail) → trail_in (slice_get rows n.0) ≡ Some w → reach rows t x n ≡ trailed (leads_on (reach rows t x w.first) w.branch) (led t n (reach rows t x) (reach rows t x w.first) w.branch) (reach rows t x w.rest)
+  pub trail_is : (n : NodeId) (w : Trail) → trail_in (slice_get rows n.0) ≡ Some w → reach rows t x n ≡ trailed (leads_on (reach rows t x w.first) w.branch) (led (t n) (reach rows t x) (reach rows t x w.first) w.branch) (reach rows t x w.rest)
   trail_is n w e = let s = row_of_trail n w e in by s.0 s.1 s.2
     where
       T : NodeId → Outs
       T m = reach rows t x m
 
       whole : Option NodeId → Outs
-      whole branch = trailed (leads_on (reach rows t x w.first) branch) (led t n (reach rows t x) (reach rows t x w.first) branch) (reach rows t x w.rest)
+      whole branch = trailed (leads_on (reach rows t x w.first) branch) (led (t n) (reach rows t x) (reach rows t x w.first) branch) (reach rows t x w.rest)
 
-      of : (r : Row) (form : Form) (ps : List NodeId) → slice_get rows n.0 ≡ Some r → is_test form ≡ true → opening form ≡ Plain → heads form ps ≡ ps → r.form ≡ form → r.parts ≡ ps → reach rows t x n ≡ tested t n form (map (reach rows t x) ps)
+      of : (r : Row) (form : Form) (ps : List NodeId) → slice_get rows n.0 ≡ Some r → is_test form ≡ true → opening form ≡ Plain → heads form ps ≡ ps → r.form ≡ form → r.parts ≡ ps → reach rows t x n ≡ tested (t n) form (map (reach rows t x) ps)
       of r form ps is it plain all k p =
           reach_test rows t x h n r is (ap is_test k ∙ it)
-          ∙ ap (λ (v : Form). caught v (tested t n v (map (reach rows t x) (heads v r.parts)))) k
-          ∙ ap (λ (l : List NodeId). caught form (tested t n form (map (reach rows t x) (heads form l)))) p
-          ∙ ap (λ (o : Opening). caught_by o (tested t n form (map (reach rows t x) (heads form ps)))) plain
-          ∙ ap (λ (l : List NodeId). tested t n form (map (reach rows t x) l)) all
+          ∙ ap (λ (v : Form). caught v (tested (t n) v (map (reach rows t x) (heads v r.parts)))) k
+          ∙ ap (λ (l : List NodeId). caught form (tested (t n) form (map (reach rows t x) (heads form l)))) p
+          ∙ ap (λ (o : Opening). caught_by o (tested (t n) form (map (reach rows t x) (heads form ps)))) plain
+          ∙ ap (λ (l : List NodeId). tested (t n) form (map (reach rows t x) l)) all
 
-      by : (r : Row) → slice_get rows n.0 ≡ Some r → IsTrail r w → reach rows t x n ≡ trailed (leads_on (reach rows t x w.first) w.branch) (led t n (reach rows t x) (reach rows t x w.first) w.branch) (reach rows t x w.rest)
+      by : (r : Row) → slice_get rows n.0 ≡ Some r → IsTrail r w → reach rows t x n ≡ trailed (leads_on (reach rows t x w.first) w.branch) (led (t n) (reach rows t x) (reach rows t x w.first) w.branch) (reach rows t x w.rest)
       by r is (inl (k, p, b)) =
           of r f.Seq (w.first ∷ w.rest ∷ []) is refl refl refl k p ∙ statement_tested t n (reach rows t x w.first) (reach rows t x w.rest)
-          ∙ ap (λ (branch : Option NodeId). trailed (leads_on (reach rows t x w.first) branch) (led t n (reach rows t x) (reach rows t x w.first) branch) (reach rows t x w.rest)) (sym b)
+          ∙ ap (λ (branch : Option NodeId). trailed (leads_on (reach rows t x w.first) branch) (led (t n) (reach rows t x) (reach rows t x w.first) branch) (reach rows t x w.rest)) (sym b)
       by r is (inr (a, k, p, b)) =
           of r f.If (w.first ∷ a ∷ w.rest ∷ []) is refl refl refl k p
-          ∙ ap (λ (branch : Option NodeId). trailed (leads_on (reach rows t x w.first) branch) (led t n (reach rows t x) (reach rows t x w.first) branch) (reach rows t x w.rest)) (sym b)
+          ∙ ap (λ (branch : Option NodeId). trailed (leads_on (reach rows t x w.first) branch) (led (t n) (reach rows t x) (reach rows t x w.first) branch) (reach rows t x w.rest)) (sym b)
 
   pub trail_later : (n : NodeId) (w : Trail) → trail_in (slice_get rows n.0) ≡ Some w → IsBehind rows n w.first × IsBehind rows n w.rest × ((a : NodeId) → w.branch ≡ Some a → IsBehind rows n a)
   trail_later n w e = let s = row_of_trail n w e in by s.0 s.1 s.2
@@ -229,32 +251,32 @@ module _ (rows : List Row) (t : Option NodeId) (x : Variable) (h : IsForward row
       )
 
 -- the loop over them
-finish_on : (inside : Bool) (all o : Outs) (t : Option NodeId) (n : NodeId) (g : NodeId → Outs) (c : Outs) (branch : Option NodeId) → leads_on c branch ≡ true → (inside ≡ false → all ≡ none) → finished inside all (trailed (leads_on c branch) (led t n g c branch) o) ≡ join (join all (led t n g c branch)) (either o)
-finish_on inside all o t n g c branch k p = ap (λ (v : Bool). finished inside all (trailed v (led t n g c branch) o)) k ∙ by inside p
+finish_on : (inside : Bool) (all o : Outs) (t : NodeId → Option ℕ) (n : NodeId) (g : NodeId → Outs) (c : Outs) (branch : Option NodeId) → leads_on c branch ≡ true → (inside ≡ false → all ≡ none) → finished inside all (trailed (leads_on c branch) (led (t n) g c branch) o) ≡ join (join all (led (t n) g c branch)) (either o)
+finish_on inside all o t n g c branch k p = ap (λ (v : Bool). finished inside all (trailed v (led (t n) g c branch) o)) k ∙ by inside p
   where
-    by : (i : Bool) → (i ≡ false → all ≡ none) → finished i all (join (led t n g c branch) (either o)) ≡ join (join all (led t n g c branch)) (either o)
-    by true p = ap (join all) (either_even (join (led t n g c branch) (either o)) (join_even (led t n g c branch) (either o) (led_even t n g c branch) refl)) ∙ sym (join_more all (led t n g c branch) (either o))
-    by false p = ap (λ (v : Outs). join (join v (led t n g c branch)) (either o)) (sym (p refl))
+    by : (i : Bool) → (i ≡ false → all ≡ none) → finished i all (join (led (t n) g c branch) (either o)) ≡ join (join all (led (t n) g c branch)) (either o)
+    by true p = ap (join all) (either_even (join (led (t n) g c branch) (either o)) (join_even (led (t n) g c branch) (either o) (led_even t n g c branch) refl)) ∙ sym (join_more all (led (t n) g c branch) (either o))
+    by false p = ap (λ (v : Outs). join (join v (led (t n) g c branch)) (either o)) (sym (p refl))
 
-finish_off : (inside : Bool) (all o : Outs) (t : Option NodeId) (n : NodeId) (g : NodeId → Outs) (c : Outs) (branch : Option NodeId) → leads_on c branch ≡ false → (inside ≡ false → all ≡ none) → finished inside all (trailed (leads_on c branch) (led t n g c branch) o) ≡ join all (led t n g c branch)
-finish_off inside all o t n g c branch k p = ap (λ (v : Bool). finished inside all (trailed v (led t n g c branch) o)) k ∙ by inside p
+finish_off : (inside : Bool) (all o : Outs) (t : NodeId → Option ℕ) (n : NodeId) (g : NodeId → Outs) (c : Outs) (branch : Option NodeId) → leads_on c branch ≡ false → (inside ≡ false → all ≡ none) → finished inside all (trailed (leads_on c branch) (led (t n) g c branch) o) ≡ join all (led (t n) g c branch)
+finish_off inside all o t n g c branch k p = ap (λ (v : Bool). finished inside all (trailed v (led (t n) g c branch) o)) k ∙ by inside p
   where
-    by : (i : Bool) → (i ≡ false → all ≡ none) → finished i all (led t n g c branch) ≡ join all (led t n g c branch)
-    by true p = ap (join all) (either_even (led t n g c branch) (led_even t n g c branch))
-    by false p = ap (λ (v : Outs). join v (led t n g c branch)) (sym (p refl))
+    by : (i : Bool) → (i ≡ false → all ≡ none) → finished i all (led (t n) g c branch) ≡ join all (led (t n) g c branch)
+    by true p = ap (join all) (either_even (led (t n) g c branch) (led_even t n g c branch))
+    by false p = ap (λ (v : Outs). join v (led (t n) g c branch)) (sym (p refl))
 
-module _ (rows : List Row) (t : Option NodeId) (x : Variable) (h : IsForward rows) where
-  turned : (inside : Bool) (all first whole : Outs) (n : NodeId) (w : Trail) → trail_in (slice_get rows n.0) ≡ Some w → first ≡ reach rows t x w.first → whole ≡ finished inside all (reach rows t x n) → whole ≡ finished inside all (trailed (leads_on first w.branch) (led t n (reach rows t x) first w.branch) (reach rows t x w.rest))
+module _ (rows : List Row) (t : NodeId → Option ℕ) (x : Variable) (h : IsForward rows) where
+  turned : (inside : Bool) (all first whole : Outs) (n : NodeId) (w : Trail) → trail_in (slice_get rows n.0) ≡ Some w → first ≡ reach rows t x w.first → whole ≡ finished inside all (reach rows t x n) → whole ≡ finished inside all (trailed (leads_on first w.branch) (led (t n) (reach rows t x) first w.branch) (reach rows t x w.rest))
   turned inside all first whole n w e f is =
       is ∙ ap (finished inside all) (trail_is rows t x h n w e)
-      ∙ ap (λ (o : Outs). finished inside all (trailed (leads_on o w.branch) (led t n (reach rows t x) o w.branch) (reach rows t x w.rest))) (sym f)
+      ∙ ap (λ (o : Outs). finished inside all (trailed (leads_on o w.branch) (led (t n) (reach rows t x) o w.branch) (reach rows t x w.rest))) (sym f)
 
-  pub trail_on : (inside : Bool) (all first whole l more : Outs) (n : NodeId) (w : Trail) → trail_in (slice_get rows n.0) ≡ Some w → first ≡ reach rows t x w.first → whole ≡ finished inside all (reach rows t x n) → leads_on first w.branch ≡ true → (inside ≡ false → all ≡ none) → l ≡ led t n (reach rows t x) first w.branch → more ≡ join all l → whole ≡ finished true more (reach rows t x w.rest)
+  pub trail_on : (inside : Bool) (all first whole l more : Outs) (n : NodeId) (w : Trail) → trail_in (slice_get rows n.0) ≡ Some w → first ≡ reach rows t x w.first → whole ≡ finished inside all (reach rows t x n) → leads_on first w.branch ≡ true → (inside ≡ false → all ≡ none) → l ≡ led (t n) (reach rows t x) first w.branch → more ≡ join all l → whole ≡ finished true more (reach rows t x w.rest)
   trail_on inside all first whole l more n w e f is k p m j =
       turned inside all first whole n w e f is ∙ finish_on inside all (reach rows t x w.rest) t n (reach rows t x) first w.branch k p
       ∙ ap (λ (o : Outs). join (join all o) (either (reach rows t x w.rest))) (sym m) ∙ ap (λ (o : Outs). join o (either (reach rows t x w.rest))) (sym j)
 
-  pub trail_off : (inside : Bool) (all first whole l more : Outs) (n : NodeId) (w : Trail) → trail_in (slice_get rows n.0) ≡ Some w → first ≡ reach rows t x w.first → whole ≡ finished inside all (reach rows t x n) → leads_on first w.branch ≡ false → (inside ≡ false → all ≡ none) → l ≡ led t n (reach rows t x) first w.branch → more ≡ join all l → more ≡ whole
+  pub trail_off : (inside : Bool) (all first whole l more : Outs) (n : NodeId) (w : Trail) → trail_in (slice_get rows n.0) ≡ Some w → first ≡ reach rows t x w.first → whole ≡ finished inside all (reach rows t x n) → leads_on first w.branch ≡ false → (inside ≡ false → all ≡ none) → l ≡ led (t n) (reach rows t x) first w.branch → more ≡ join all l → more ≡ whole
   trail_off inside all first whole l more n w e f is k p m j =
       j ∙ ap (join all) m ∙ sym (turned inside all first whole n w e f is ∙ finish_off inside all (reach rows t x w.rest) t n (reach rows t x) first w.branch k p)
 

@@ -19,10 +19,10 @@ use Rattle.cr_flow.specs.declared.outs.Outs.{Outs}
 use Rattle.cr_flow.specs.Control.{is_test, arm, keeps, ends, is_break, begins_turn, is_next, is_return, assigns, has_arm, is_clause, is_choice, runs_apart, heads, last}
 use Rattle.cr_flow.specs.Ways as way
 use Rattle.cr_flow.specs.Ways.{Point, Before, Acts, After, End, IsRow, IsHead, IsLast, IsArm, given, Step, leaves_scope, sets, sets_in, Way, IsSetOn}
-use Rattle.cr_flow.specs.Outs.{none, ending, join, also, goes_on, reaches_end, jumps, either, caught_by, caught, is_goal, act, beside, here, acted, decided, chain, at, at_in, backed, armed, tested, at_node, own_outs, clause_outs, clauses_outs, arms_outs, inner, reach}
+use Rattle.cr_flow.specs.Outs.{none, ending, join, also, goes_on, reaches_end, jumps, either, caught_by, caught, act, beside, here, acted, decided, chain, at, at_in, backed, armed, tested, at_node, own_outs, clause_outs, clauses_outs, arms_outs, inner, reach}
 use Rattle.cr_flow.proofs.Reaching.{reach_some, inner_test, inner_plain}
 use Rattle.cr_flow.proofs.Parts.{forward, lt-or-le, node_same, scope_same, not_both, IsChild, same_row, same_head, same_arm, head_no_arm, head_child, arm_child}
-use Rattle.cr_flow.proofs.Exits.{Exit, Found, Ends, Leaves, Skips, Returns, Has, IsJump, or_left, or_right, in_left, in_right, in_also, in_also_new, in_jumps, ends_on, in_either, both_either, caught_ends, caught_returns, caught_found, scope_stops, loop_stops, chain_jump, chain_acts}
+use Rattle.cr_flow.proofs.Exits.{within, within_own, Exit, Found, Ends, Leaves, Skips, Returns, Has, IsJump, or_left, or_right, in_left, in_right, in_also, in_also_new, in_jumps, ends_on, in_either, both_either, caught_ends, caught_returns, caught_found, scope_stops, loop_stops, chain_jump, chain_acts}
 
 pub bool_cases : (b : Bool) → (b ≡ true) ⊎ (b ≡ false)
 bool_cases true = inl refl
@@ -36,26 +36,29 @@ pub passed : (b : Bool) (p q : Outs) (z : Exit) → b ≡ false → Has q z → 
 passed true p q z e h = absurd (cc)
 passed false p q z e h = h
 
-in_tested_jump : (t : Option NodeId) (n : NodeId) (form : Form) (os : List Outs) (z : Exit) → IsJump z → Has (at os 0) z → Has (tested t n form os) z
+in_tested_jump : (t : NodeId → Option ℕ) (n : NodeId) (form : Form) (os : List Outs) (z : Exit) → IsJump z → Has (at os 0) z → Has (tested (t n) form os) z
 in_tested_jump t n form os z j h =
     let c = at os 0 in
-    in_also c.no (also c.yes (decided t n c) (armed form os (arm form Yes))) (armed form os (arm form No)) z
-    (in_also c.yes (decided t n c) (armed form os (arm form Yes)) z (in_also (goes_on c) (jumps c) (here t n) z (in_jumps c z j h)))
+    in_also c.no (also c.yes (decided (t n) c) (armed form os (arm form Yes))) (armed form os (arm form No)) z
+    (in_also c.yes (decided (t n) c) (armed form os (arm form Yes)) z (in_also (goes_on c) (jumps c) (here (t n)) z (in_jumps c z j h)))
 
-in_tested_here : (t : Option NodeId) (n : NodeId) (form : Form) (os : List Outs) (e : Outcome) → is_goal t n ≡ true → Has (at os 0) (Ends e) → Has (tested t n form os) Found
-in_tested_here t n form os e g h =
+has_here : (k : Option ℕ) (j : ℕ) → k ≡ Some j → Has (here k) (Found j)
+has_here k j e = ap (within j) e ∙ within_own j
+
+in_tested_here : (t : NodeId → Option ℕ) (n : NodeId) (form : Form) (os : List Outs) (e : Outcome) (j : ℕ) → t n ≡ Some j → Has (at os 0) (Ends e) → Has (tested (t n) form os) (Found j)
+in_tested_here t n form os e j g h =
     let c = at os 0 in
-    in_also c.no (also c.yes (decided t n c) (armed form os (arm form Yes))) (armed form os (arm form No)) Found
-    (in_also c.yes (decided t n c) (armed form os (arm form Yes)) Found (in_also_new (goes_on c) (jumps c) (here t n) Found (ends_on c e h) g))
+    in_also c.no (also c.yes (decided (t n) c) (armed form os (arm form Yes))) (armed form os (arm form No)) (Found j)
+    (in_also c.yes (decided (t n) c) (armed form os (arm form Yes)) (Found j) (in_also_new (goes_on c) (jumps c) (here (t n)) (Found j) (ends_on c e h) (has_here (t n) j g)))
 
-in_tested_arm : (t : Option NodeId) (n : NodeId) (form : Form) (os : List Outs) (e : Outcome) (z : Exit) → Has (at os 0) (Ends e) → Has (armed form os (arm form e)) z → Has (tested t n form os) z
+in_tested_arm : (t : NodeId → Option ℕ) (n : NodeId) (form : Form) (os : List Outs) (e : Outcome) (z : Exit) → Has (at os 0) (Ends e) → Has (armed form os (arm form e)) z → Has (tested (t n) form os) z
 in_tested_arm t n form os Yes z h k =
     let c = at os 0 in
-    in_also c.no (also c.yes (decided t n c) (armed form os (arm form Yes))) (armed form os (arm form No)) z
-    (in_also_new c.yes (decided t n c) (armed form os (arm form Yes)) z h k)
+    in_also c.no (also c.yes (decided (t n) c) (armed form os (arm form Yes))) (armed form os (arm form No)) z
+    (in_also_new c.yes (decided (t n) c) (armed form os (arm form Yes)) z h k)
 in_tested_arm t n form os No z h k =
     let c = at os 0 in
-    in_also_new c.no (also c.yes (decided t n c) (armed form os (arm form Yes))) (armed form os (arm form No)) z h k
+    in_also_new c.no (also c.yes (decided (t n) c) (armed form os (arm form Yes))) (armed form os (arm form No)) z h k
 
 jump_backed : (b : Bool) (o : Outs) (z : Exit) → IsJump z → Has o z → Has (backed b o) z
 jump_backed true o z j h = h
@@ -126,7 +129,7 @@ pub record IsBody (rows : List Row) (scope : ScopeId) (body : NodeId) : Type 0 w
   pub before : opener.0 < body.0
   pub once : (n m : NodeId) (q s : Row) (k : ScopeId) → IsRow rows n q → IsRow rows m s → opening q.form ≡ Opens k → opening s.form ≡ Opens k → n ≡ m
 
-module _ (rows : List Row) (arena : IsArena rows) (t : Option NodeId) (x : Variable) (scope : ScopeId) (body : NodeId) (is_body : IsBody rows scope body) where
+module _ (rows : List Row) (arena : IsArena rows) (t : NodeId → Option ℕ) (x : Variable) (scope : ScopeId) (body : NodeId) (is_body : IsBody rows scope body) where
   abbrev T : NodeId → Outs
   T n = reach rows t x n
 
@@ -137,7 +140,7 @@ module _ (rows : List Row) (arena : IsArena rows) (t : Option NodeId) (x : Varia
   outs_at r = map (reach rows t x) (heads r.form r.parts)
 
   abbrev act_at : NodeId → Row → Outs
-  act_at n r = acted t x n r.form (arms_outs (reach rows t x) rows r)
+  act_at n r = acted (t n) x r.form (arms_outs (reach rows t x) rows r)
 
   -- the parts before this one, or all parts, end
   abbrev AreOn : Row → ℕ → Type 0
@@ -204,14 +207,14 @@ module _ (rows : List Row) (arena : IsArena rows) (t : Option NodeId) (x : Varia
   acted_has : (n : NodeId) (r : Row) (z : Exit) → assigns r.form x ≡ false → Has (join (act r.form) (beside r.form (arms_outs (reach rows t x) rows r))) z → Has (act_at n r) z
   acted_has n r z s h =
       let all = join (act r.form) (beside r.form (arms_outs (reach rows t x) rows r)) in
-      passed (assigns r.form x) (here t n) (join (here t n) all) z s (in_right (here t n) all z h)
+      passed (assigns r.form x) (here (t n)) (join (here (t n)) all) z s (in_right (here (t n)) all z h)
 
-  acted_found : (n : NodeId) (r : Row) → is_goal t n ≡ true → Has (act_at n r) Found
-  acted_found n r g = by (assigns r.form x)
+  acted_found : (n : NodeId) (r : Row) (j : ℕ) → t n ≡ Some j → Has (act_at n r) (Found j)
+  acted_found n r j g = by (assigns r.form x)
     where
-      by : (b : Bool) → Has (if b then here t n else join (here t n) (join (act r.form) (beside r.form (arms_outs (reach rows t x) rows r)))) Found
-      by true = g
-      by false = in_left (here t n) (join (act r.form) (beside r.form (arms_outs (reach rows t x) rows r))) Found g
+      by : (b : Bool) → Has (if b then here (t n) else join (here (t n)) (join (act r.form) (beside r.form (arms_outs (reach rows t x) rows r)))) (Found j)
+      by true = has_here (t n) j g
+      by false = in_left (here (t n)) (join (act r.form) (beside r.form (arms_outs (reach rows t x) rows r))) (Found j) (has_here (t n) j g)
 
   acts_in : (n : NodeId) (r : Row) (z : Exit) → AllOn r → Has (act_at n r) z → Has (inner_of n r) z
   acts_in n r z on h = subst (λ (o : Outs). Has o z) (sym (inner_plain rows t x (forward rows arena) n r on.0)) (chain_acts (reach rows t x) none (act_at n r) (heads r.form r.parts) z on.1 h)
@@ -235,7 +238,7 @@ module _ (rows : List Row) (arena : IsArena rows) (t : Option NodeId) (x : Varia
       there : Has (at (outs_at r) i) z
       there = subst (λ (o : Outs). Has o z) (sym (at_head r i c p)) h
 
-      test : (i ≡ 0) ⊎ IsChosen r i → Has (tested t n r.form (outs_at r)) z
+      test : (i ≡ 0) ⊎ IsChosen r i → Has (tested (t n) r.form (outs_at r)) z
       test (inl e) = in_tested_jump t n r.form (outs_at r) z j (subst (λ (v : ℕ). Has (at (outs_at r) v) z) e there)
       test (inr q) =
           in_tested_arm t n r.form (outs_at r) q.1 z (subst (λ (o : Outs). Has o (Ends q.1)) (sym (at_head r 0 q.0 q.2)) q.3)
@@ -460,22 +463,22 @@ module _ (rows : List Row) (arena : IsArena rows) (t : Option NodeId) (x : Varia
       ⊎_elim (λ (i : IsSetOn rows scope body x k w.0 q w.2). inl (inr i)) (λ (u : Reached q). inr u) (along k w.0 q w.2 (go_on p w.0 w.1.0 w.1.1 s v)))
       (bool_cases (sets rows scope body x p))
 
-  found_in : (n : NodeId) (r : Row) → IsRow rows n r → is_goal t n ≡ true → AtAct r → Has (inner_of n r) Found
-  found_in n r a g (inl on) = acts_in n r Found on (acted_found n r g)
-  found_in n r a g (inr d) =
-      subst (λ (o : Outs). Has o Found) (sym (inner_test rows t x (forward rows arena) n r d.2))
-      (in_tested_here t n r.form (outs_at r) d.1 g (subst (λ (o : Outs). Has o (Ends d.1)) (sym (at_head r 0 d.0 d.3)) d.4))
+  found_in : (n : NodeId) (r : Row) (j : ℕ) → IsRow rows n r → t n ≡ Some j → AtAct r → Has (inner_of n r) (Found j)
+  found_in n r j a g (inl on) = acts_in n r (Found j) on (acted_found n r j g)
+  found_in n r j a g (inr d) =
+      subst (λ (o : Outs). Has o (Found j)) (sym (inner_test rows t x (forward rows arena) n r d.2))
+      (in_tested_here t n r.form (outs_at r) d.1 j g (subst (λ (o : Outs). Has o (Ends d.1)) (sym (at_head r 0 d.0 d.3)) d.4))
 
-  found_at : (n : NodeId) → is_goal t n ≡ true → Reached (Acts n) → (T body).found ≡ true
-  found_at n g v =
+  found_at : (n : NodeId) (j : ℕ) → t n ≡ Some j → Reached (Acts n) → Has (T body) (Found j)
+  found_at n j g v =
       let s = visited_row n v.0 in
-      climb Found tt caught_found n v.0 (subst (λ (o : Outs). Has o Found) (sym (T_of n s.0 s.1)) (caught_found s.0.form (inner_of n s.0) (found_in n s.0 s.1 g (v.1 s.0 s.1))))
+      climb (Found j) tt (caught_found j) n v.0 (subst (λ (o : Outs). Has o (Found j)) (sym (T_of n s.0 s.1)) (caught_found j s.0.form (inner_of n s.0) (found_in n s.0 j s.1 g (v.1 s.0 s.1))))
 
-  -- where nothing is found, each way to what is asked for has an assignment
-  pub no_way : (n : NodeId) → is_goal t n ≡ true → (T body).found ≡ false → (k : ℕ) (w : Way rows scope body k (Before body) (Acts n)) → IsSetOn rows scope body x k (Before body) (Acts n) w
-  no_way n g off k w =
+  -- where nothing of at most its rank is found, each way to a node has an assignment
+  pub no_way : (n : NodeId) (j : ℕ) → t n ≡ Some j → within j (T body).found ≡ false → (k : ℕ) (w : Way rows scope body k (Before body) (Acts n)) → IsSetOn rows scope body x k (Before body) (Acts n) w
+  no_way n j g off k w =
       ⊎_elim (λ (s : IsSetOn rows scope body x k (Before body) (Acts n) w). s)
-      (λ (v : Reached (Acts n)). absurd (not_both (T body).found (found_at n g v) off))
+      (λ (v : Reached (Acts n)). absurd (not_both (within j (T body).found) (found_at n j g v) off))
       (along k (Before body) (Acts n) w (start body refl))
 
   pub no_way_end : reaches_end (T body) ≡ false → (k : ℕ) (w : Way rows scope body k (Before body) End) → IsSetOn rows scope body x k (Before body) End w

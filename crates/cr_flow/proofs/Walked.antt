@@ -20,11 +20,11 @@ use Rattle.cr_flow.specs.declared.outs.Outs.{Outs}
 use Rattle.cr_flow.specs.Control.{is_test, arm, keeps, ends, is_break, is_next, is_return, assigns, has_arm, is_clause, is_choice, runs_apart, heads, last}
 use Rattle.cr_flow.specs.Ways as way
 use Rattle.cr_flow.specs.Ways.{Point, Before, Acts, After, End, IsRow, IsHead, IsLast, IsArm, given, Step, leaves_scope, sets, sets_in, Way, IsSetOn, IsSetBefore}
-use Rattle.cr_flow.specs.Outs.{none, ending, join, also, goes_on, reaches_end, jumps, either, stopped, caught_by, caught, is_goal, act, beside, here, acted, decided, chain, at, at_in, backed, armed, tested, at_node, own_outs, clause_outs, clauses_outs, arms_outs, inner, reach}
+use Rattle.cr_flow.specs.Outs.{none, ending, join, also, goes_on, reaches_end, jumps, either, stopped, caught_by, caught, act, beside, here, acted, decided, chain, at, at_in, backed, armed, tested, at_node, own_outs, clause_outs, clauses_outs, arms_outs, inner, reach}
 use Rattle.cr_flow.proofs.Reaching.{reach_none, reach_test, reach_plain, reach_some, inner_test, inner_plain}
 use Rattle.cr_flow.proofs.Parts.{forward, node_same, scope_same, not_both, IsChild, same_row, head_child, arm_child, there}
 use Rattle.cr_flow.proofs.Visited.{IsBody, bool_cases, break_plain, next_plain}
-use Rattle.cr_flow.proofs.Exits.{Exit, Found, Ends, Leaves, Skips, Returns, Has, IsJump, from_join, from_also, from_jumps, from_either, on_ends, or_from, no_none}
+use Rattle.cr_flow.proofs.Exits.{within, Exit, Found, Ends, Leaves, Skips, Returns, Has, IsJump, from_join, from_also, from_jumps, from_either, on_ends, or_from, no_none}
 
 module _ (rows : List Row) (scope : ScopeId) (body : NodeId) (x : Variable) where
   -- a way on which nothing assigns the variable
@@ -46,7 +46,7 @@ module _ (rows : List Row) (scope : ScopeId) (body : NodeId) (x : Variable) wher
   pub bare_way : (p q : Point) → Bare p q → Left p q
   bare_way p q b = way_to p q q b (zero, refl, λ h. h)
 
-module _ (rows : List Row) (arena : IsArena rows) (t : Option NodeId) (x : Variable) (scope : ScopeId) (body : NodeId) (is_body : IsBody rows scope body) where
+module _ (rows : List Row) (arena : IsArena rows) (t : NodeId → Option ℕ) (x : Variable) (scope : ScopeId) (body : NodeId) (is_body : IsBody rows scope body) where
   abbrev T : NodeId → Outs
   T n = reach rows t x n
 
@@ -55,7 +55,7 @@ module _ (rows : List Row) (arena : IsArena rows) (t : Option NodeId) (x : Varia
 
   -- where the exits of n lead from p, with this loop and this scope around
   abbrev From : Point → NodeId → Option NodeId → ScopeId → Exit → Type 0
-  From p n u k Found = (s : NodeId) × (is_goal t s ≡ true) × B p (Acts s)
+  From p n u k (Found j) = (s : NodeId) × (within j (t s) ≡ true) × B p (Acts s)
   From p n u k (Ends e) = B p (After n e)
   From p n u k Leaves = (w : NodeId) → u ≡ Some w → (e : Outcome) → B p (After w e)
   From p n u k Skips = u ≡ None → ((b : NodeId) (q : Row) → IsRow rows b q → opening q.form ≡ Opens k → (k.0 == scope.0) ≡ false → (e : Outcome) → B p (After b e)) × ((k.0 == scope.0) ≡ true → B p End)
@@ -63,7 +63,7 @@ module _ (rows : List Row) (arena : IsArena rows) (t : Option NodeId) (x : Varia
 
   -- a jump is the same for the whole
   jump_from : (p : Point) (c n : NodeId) (u : Option NodeId) (k : ScopeId) (z : Exit) → IsJump z → From p c u k z → From p n u k z
-  jump_from p c n u k Found j h = h
+  jump_from p c n u k (Found i) j h = h
   jump_from p c n u k (Ends e) j h = absurd j
   jump_from p c n u k Leaves j h = h
   jump_from p c n u k Skips j h = h
@@ -88,7 +88,7 @@ module _ (rows : List Row) (arena : IsArena rows) (t : Option NodeId) (x : Varia
 
   -- what a loop or a scope catches
   scope_from : (p : Point) (n : NodeId) (r : Row) (k : ScopeId) (o : Outs) → IsRow rows n r → body.0 ≤ n.0 → opening r.form ≡ Opens k → ((z : Exit) → Has o z → From p n None k z) → (y : Exit) → Has (stopped o.skips o) y → From p n r.within.turn r.within.scope y
-  scope_from p n r k o a low w g Found h = g Found h
+  scope_from p n r k o a low w g (Found j) h = g (Found j) h
   scope_from p n r k o a low w g (Ends Yes) h = ⊎_elim (λ (l : o.yes ≡ true). g (Ends Yes) l) (λ (m : o.skips ≡ true). (g Skips m refl).0 n r a w (other_scope n r k a low w) Yes) (or_from o.yes o.skips h)
   scope_from p n r k o a low w g (Ends No) h = ⊎_elim (λ (l : o.no ≡ true). g (Ends No) l) (λ (m : o.skips ≡ true). (g Skips m refl).0 n r a w (other_scope n r k a low w) No) (or_from o.no o.skips h)
   scope_from p n r k o a low w g Leaves h = absurd (cc)
@@ -96,7 +96,7 @@ module _ (rows : List Row) (arena : IsArena rows) (t : Option NodeId) (x : Varia
   scope_from p n r k o a low w g Returns h = g Returns h
 
   loop_from : (p : Point) (n : NodeId) (r : Row) (o : Outs) → ((z : Exit) → Has o z → From p n (Some (node_id n.0)) r.within.scope z) → (y : Exit) → Has (stopped o.leaves o) y → From p n r.within.turn r.within.scope y
-  loop_from p n r o g Found h = g Found h
+  loop_from p n r o g (Found j) h = g (Found j) h
   loop_from p n r o g (Ends Yes) h = ⊎_elim (λ (l : o.yes ≡ true). g (Ends Yes) l) (λ (m : o.leaves ≡ true). subst (λ (v : NodeId). B p (After v Yes)) (node_same (node_id n.0) n refl) (g Leaves m (node_id n.0) refl Yes)) (or_from o.yes o.leaves h)
   loop_from p n r o g (Ends No) h = ⊎_elim (λ (l : o.no ≡ true). g (Ends No) l) (λ (m : o.leaves ≡ true). subst (λ (v : NodeId). B p (After v No)) (node_same (node_id n.0) n refl) (g Leaves m (node_id n.0) refl No)) (or_from o.no o.leaves h)
   loop_from p n r o g Leaves h = absurd (cc)
@@ -112,8 +112,8 @@ module _ (rows : List Row) (arena : IsArena rows) (t : Option NodeId) (x : Varia
       by Plain w g h = g y h
 
   -- the act
-  hit_from : (p : Point) (n : NodeId) (u : Option NodeId) (k : ScopeId) → B p (Acts n) → (z : Exit) → Has (here t n) z → From p n u k z
-  hit_from p n u k b Found h = (n, h, b)
+  hit_from : (p : Point) (n : NodeId) (u : Option NodeId) (k : ScopeId) → B p (Acts n) → (z : Exit) → Has (here (t n)) z → From p n u k z
+  hit_from p n u k b (Found j) h = (n, h, b)
   hit_from p n u k b (Ends Yes) h = absurd (cc)
   hit_from p n u k b (Ends No) h = absurd (cc)
   hit_from p n u k b Leaves h = absurd (cc)
@@ -130,7 +130,7 @@ module _ (rows : List Row) (arena : IsArena rows) (t : Option NodeId) (x : Varia
   plain_scope n r e = sym (ap (λ (o : Opening). (inside_opening o n.0 r.within).scope) e)
 
   plain_from : (p : Point) (n : NodeId) (r : Row) → IsRow rows n r → is_test r.form ≡ false → assigns r.form x ≡ false → B p (Acts n) → (z : Exit) → Has (act r.form) z → From p n (turn_of n r) (scope_of n r) z
-  plain_from p n r a nt s b Found h = absurd (cc)
+  plain_from p n r a nt s b (Found j) h = absurd (cc)
   plain_from p n r a nt s b (Ends Yes) h = on p (Acts n) (After n Yes) b (is_set n r a s) (way.plain n r Yes a nt h) (λ k. k)
   plain_from p n r a nt s b (Ends No) h = on p (Acts n) (After n No) b (is_set n r a s) (way.plain n r No a nt h) (λ k. k)
   plain_from p n r a nt s b Leaves h = λ w e g. on p (Acts n) (After w g) b (is_set n r a s) (way.leaves n w r g a h (plain_turn n r (break_plain r.form h) ∙ e)) (λ k. k)
@@ -240,18 +240,18 @@ module _ (rows : List Row) (arena : IsArena rows) (t : Option NodeId) (x : Varia
             (λ (g : (g : Outcome) × (o : Outcome) × (z ≡ Ends g) × Has (arms_outs (reach rows t x) rows r) (Ends o)). subst (From p n u k) (sym g.2) (arm_ended p d s e g.1 g.0 g.3))
             (from_either (arms_outs (reach rows t x) rows r) z h)
 
-    act_from : (p : Point) → is_test r.form ≡ false → B p (Acts n) → (z : Exit) → Has (acted t x n r.form (arms_outs (reach rows t x) rows r)) z → From p n u k z
+    act_from : (p : Point) → is_test r.form ≡ false → B p (Acts n) → (z : Exit) → Has (acted (t n) x r.form (arms_outs (reach rows t x) rows r)) z → From p n u k z
     act_from p nt b z h = by (assigns r.form x) refl h
       where
-        by : (v : Bool) → assigns r.form x ≡ v → Has (if v then here t n else join (here t n) (join (act r.form) (beside r.form (arms_outs (reach rows t x) rows r)))) z → From p n u k z
+        by : (v : Bool) → assigns r.form x ≡ v → Has (if v then here (t n) else join (here (t n)) (join (act r.form) (beside r.form (arms_outs (reach rows t x) rows r)))) z → From p n u k z
         by true e h = hit_from p n u k b z h
         by false e h =
-            ⊎_elim (λ (l : Has (here t n) z). hit_from p n u k b z l)
+            ⊎_elim (λ (l : Has (here (t n)) z). hit_from p n u k b z l)
             (λ (m : Has (join (act r.form) (beside r.form (arms_outs (reach rows t x) rows r))) z).
             ⊎_elim (λ (l : Has (act r.form) z). plain_from p n r a nt e b z l)
             (λ (q : Has (beside r.form (arms_outs (reach rows t x) rows r)) z). beside_from p b e z q)
             (from_join (act r.form) (beside r.form (arms_outs (reach rows t x) rows r)) z m))
-            (from_join (here t n) (join (act r.form) (beside r.form (arms_outs (reach rows t x) rows r))) z h)
+            (from_join (here (t n)) (join (act r.form) (beside r.form (arms_outs (reach rows t x) rows r))) z h)
 
     -- in order
     abbrev entry : List NodeId → Point
@@ -265,9 +265,9 @@ module _ (rows : List Row) (arena : IsArena rows) (t : Option NodeId) (x : Varia
     go_next p i c [] e nt q at len b = on p (After c e) (Acts n) b refl (way.last_part n c i r e a nt q (omega (arith, len))) (outside c (later i c q))
     go_next p i c (d ∷ ps) e nt q at len b = on p (After c e) (Before d) b refl (way.next n c d i r e a nt q (at 0 d refl (suc i) (omega arith))) (outside c (later i c q))
 
-    line_from : (p : Point) (ps : List NodeId) (i : ℕ) (all : Outs) → is_test r.form ≡ false → AreFrom ps i → length (heads r.form r.parts) ≡ i + length ps → B p (entry ps) → (z : Exit) → Has (chain all (acted t x n r.form (arms_outs (reach rows t x) rows r)) (map (reach rows t x) ps)) z → Has all z ⊎ From p n u k z
+    line_from : (p : Point) (ps : List NodeId) (i : ℕ) (all : Outs) → is_test r.form ≡ false → AreFrom ps i → length (heads r.form r.parts) ≡ i + length ps → B p (entry ps) → (z : Exit) → Has (chain all (acted (t n) x r.form (arms_outs (reach rows t x) rows r)) (map (reach rows t x) ps)) z → Has all z ⊎ From p n u k z
     line_from p [] i all nt at len b z h =
-        ⊎_elim (λ (l : Has all z). inl l) (λ (m : Has (acted t x n r.form (arms_outs (reach rows t x) rows r)) z). inr (act_from p nt b z m)) (from_join all (acted t x n r.form (arms_outs (reach rows t x) rows r)) z h)
+        ⊎_elim (λ (l : Has all z). inl l) (λ (m : Has (acted (t n) x r.form (arms_outs (reach rows t x) rows r)) z). inr (act_from p nt b z m)) (from_join all (acted (t n) x r.form (arms_outs (reach rows t x) rows r)) z h)
     line_from p (c ∷ ps) i all nt at len b z h =
         let q : IsHead r i c = at 0 c refl i (omega arith) in
         let at2 : AreFrom ps (suc i) = λ j d g m e. at (suc j) d g m (omega (arith, e)) in
@@ -277,13 +277,13 @@ module _ (rows : List Row) (arena : IsArena rows) (t : Option NodeId) (x : Varia
         two : IsHead r i c → Has (join all (jumps (T c))) z → Has all z ⊎ From p n u k z
         two q y = ⊎_elim (λ (l : Has all z). inl l) (λ (m : Has (jumps (T c)) z). let j = from_jumps (T c) z m in inr (part_jump p i c q b z j.0 j.1)) (from_join all (jumps (T c)) z y)
 
-        by : IsHead r i c → ((e : Outcome) → Has (T c) (Ends e) → Has (chain (join all (jumps (T c))) (acted t x n r.form (arms_outs (reach rows t x) rows r)) (map (reach rows t x) ps)) z → Has (join all (jumps (T c))) z ⊎ From p n u k z) → (v : Bool) → goes_on (T c) ≡ v → Has (if v then chain (join all (jumps (T c))) (acted t x n r.form (arms_outs (reach rows t x) rows r)) (map (reach rows t x) ps) else join all (jumps (T c))) z → Has all z ⊎ From p n u k z
+        by : IsHead r i c → ((e : Outcome) → Has (T c) (Ends e) → Has (chain (join all (jumps (T c))) (acted (t n) x r.form (arms_outs (reach rows t x) rows r)) (map (reach rows t x) ps)) z → Has (join all (jumps (T c))) z ⊎ From p n u k z) → (v : Bool) → goes_on (T c) ≡ v → Has (if v then chain (join all (jumps (T c))) (acted (t n) x r.form (arms_outs (reach rows t x) rows r)) (map (reach rows t x) ps) else join all (jumps (T c))) z → Has all z ⊎ From p n u k z
         by q more true g y = let e = on_ends (T c) g in ⊎_elim (λ (l : Has (join all (jumps (T c))) z). two q l) (λ (m : From p n u k z). inr m) (more e.0 e.1 y)
         by q more false g y = two q y
 
     -- by the first part's outcome
     from_give : (v w : Bool) (z : Exit) → Has (ending v w) z → (g : Outcome) × (z ≡ Ends g) × (given v w g ≡ true)
-    from_give v w Found h = absurd (cc)
+    from_give v w (Found j) h = absurd (cc)
     from_give v w (Ends Yes) h = (Yes, refl, h)
     from_give v w (Ends No) h = (No, refl, h)
     from_give v w Leaves h = absurd (cc)
@@ -295,7 +295,7 @@ module _ (rows : List Row) (arena : IsArena rows) (t : Option NodeId) (x : Varia
     no_backed false z h = no_none z h
 
     jump_or_end : (z : Exit) → IsJump z ⊎ ((g : Outcome) × (z ≡ Ends g))
-    jump_or_end Found = inl tt
+    jump_or_end (Found j) = inl tt
     jump_or_end (Ends g) = inr (g, refl)
     jump_or_end Leaves = inl tt
     jump_or_end Skips = inl tt
@@ -342,7 +342,7 @@ module _ (rows : List Row) (arena : IsArena rows) (t : Option NodeId) (x : Varia
             let g = arm_part r.form e j it q in let y2 = subst (λ (v : ℕ). IsHead r v d) g.1 y in
             branch_from p g.0 d it y2 (on p (After c e) (Before d) b refl (way.branch n c d j r e a it w q y) (outside c (later 0 c w))) (keeps r.form) refl z h
 
-    tested_from : (p : Point) → is_test r.form ≡ true → B p (Before n) → (z : Exit) → Has (tested t n r.form (map (reach rows t x) (heads r.form r.parts))) z → From p n u k z
+    tested_from : (p : Point) → is_test r.form ≡ true → B p (Before n) → (z : Exit) → Has (tested (t n) r.form (map (reach rows t x) (heads r.form r.parts))) z → From p n u k z
     tested_from p it b z h = some (slice_get (heads r.form r.parts) 0) refl (ap at_in (slice_get-map (reach rows t x) (heads r.form r.parts) 0))
       where
         enter : (c : NodeId) → IsHead r 0 c → B p (Before c)
@@ -356,26 +356,26 @@ module _ (rows : List Row) (arena : IsArena rows) (t : Option NodeId) (x : Varia
         jumped None w g q = absurd (no_none z (subst (λ (o : Outs). Has o z) g q.1))
         jumped (Some c) w g q = part_jump p 0 c w (enter c w) z q.0 (subst (λ (o : Outs). Has o z) g q.1)
 
-        acts : (o : Option NodeId) → slice_get (heads r.form r.parts) 0 ≡ o → at (map (reach rows t x) (heads r.form r.parts)) 0 ≡ at_in (option_map (reach rows t x) o) → goes_on (at (map (reach rows t x) (heads r.form r.parts)) 0) ≡ true → Has (here t n) z → From p n u k z
+        acts : (o : Option NodeId) → slice_get (heads r.form r.parts) 0 ≡ o → at (map (reach rows t x) (heads r.form r.parts)) 0 ≡ at_in (option_map (reach rows t x) o) → goes_on (at (map (reach rows t x) (heads r.form r.parts)) 0) ≡ true → Has (here (t n)) z → From p n u k z
         acts None w g q h = let y : goes_on none ≡ true = subst (λ (o : Outs). goes_on o ≡ true) g q in absurd (cc)
         acts (Some c) w g q h =
             let e = on_ends (at (map (reach rows t x) (heads r.form r.parts)) 0) q in
             let ended = part_end p 0 c w (enter c w) e.0 (subst (λ (o : Outs). Has o (Ends e.0)) g e.1) in
             hit_from p n u k (on p (After c e.0) (Acts n) ended refl (way.decides n c r e.0 a it w) (outside c (later 0 c w))) z h
 
-        at_once : (o : Option NodeId) → slice_get (heads r.form r.parts) 0 ≡ o → at (map (reach rows t x) (heads r.form r.parts)) 0 ≡ at_in (option_map (reach rows t x) o) → Has (decided t n (at (map (reach rows t x) (heads r.form r.parts)) 0)) z → From p n u k z
+        at_once : (o : Option NodeId) → slice_get (heads r.form r.parts) 0 ≡ o → at (map (reach rows t x) (heads r.form r.parts)) 0 ≡ at_in (option_map (reach rows t x) o) → Has (decided (t n) (at (map (reach rows t x) (heads r.form r.parts)) 0)) z → From p n u k z
         at_once o w g h =
             let c = at (map (reach rows t x) (heads r.form r.parts)) 0 in
-            ⊎_elim (λ (l : Has (jumps c) z). jumped o w g (from_jumps c z l)) (λ (y : (goes_on c ≡ true) × Has (here t n) z). acts o w g y.0 y.1) (from_also (goes_on c) (jumps c) (here t n) z h)
+            ⊎_elim (λ (l : Has (jumps c) z). jumped o w g (from_jumps c z l)) (λ (y : (goes_on c ≡ true) × Has (here (t n)) z). acts o w g y.0 y.1) (from_also (goes_on c) (jumps c) (here (t n)) z h)
 
         some : (o : Option NodeId) → slice_get (heads r.form r.parts) 0 ≡ o → at (map (reach rows t x) (heads r.form r.parts)) 0 ≡ at_in (option_map (reach rows t x) o) → From p n u k z
         some o w g =
             let c = at (map (reach rows t x) (heads r.form r.parts)) 0 in
-            ⊎_elim (λ (l : Has (also c.yes (decided t n c) (armed r.form (map (reach rows t x) (heads r.form r.parts)) (arm r.form Yes))) z).
-            ⊎_elim (λ (j : Has (decided t n c) z). at_once o w g j) (λ (y : (c.yes ≡ true) × Has (armed r.form (map (reach rows t x) (heads r.form r.parts)) (arm r.form Yes)) z). arms o w g Yes y.0 y.1)
-            (from_also c.yes (decided t n c) (armed r.form (map (reach rows t x) (heads r.form r.parts)) (arm r.form Yes)) z l))
+            ⊎_elim (λ (l : Has (also c.yes (decided (t n) c) (armed r.form (map (reach rows t x) (heads r.form r.parts)) (arm r.form Yes))) z).
+            ⊎_elim (λ (j : Has (decided (t n) c) z). at_once o w g j) (λ (y : (c.yes ≡ true) × Has (armed r.form (map (reach rows t x) (heads r.form r.parts)) (arm r.form Yes)) z). arms o w g Yes y.0 y.1)
+            (from_also c.yes (decided (t n) c) (armed r.form (map (reach rows t x) (heads r.form r.parts)) (arm r.form Yes)) z l))
             (λ (y : (c.no ≡ true) × Has (armed r.form (map (reach rows t x) (heads r.form r.parts)) (arm r.form No)) z). arms o w g No y.0 y.1)
-            (from_also c.no (also c.yes (decided t n c) (armed r.form (map (reach rows t x) (heads r.form r.parts)) (arm r.form Yes))) (armed r.form (map (reach rows t x) (heads r.form r.parts)) (arm r.form No)) z h)
+            (from_also c.no (also c.yes (decided (t n) c) (armed r.form (map (reach rows t x) (heads r.form r.parts)) (arm r.form Yes))) (armed r.form (map (reach rows t x) (heads r.form r.parts)) (arm r.form No)) z h)
 
     begin : (p : Point) (ps : List NodeId) → heads r.form r.parts ≡ ps → is_test r.form ≡ false → B p (Before n) → B p (entry ps)
     begin p [] e nt b = on p (Before n) (Acts n) b refl (way.at_once n r a nt (ap length e)) (λ k. k)
@@ -383,9 +383,9 @@ module _ (rows : List Row) (arena : IsArena rows) (t : Option NodeId) (x : Varia
 
     row_from : (p : Point) → B p (Before n) → (z : Exit) → Has (T n) z → From p n r.within.turn r.within.scope z
     row_from p b z h =
-        ⊎_elim (λ (it : is_test r.form ≡ true). caught_from p n r (tested t n r.form (map (reach rows t x) (heads r.form r.parts))) a low (tested_from p it b) z (subst (λ (o : Outs). Has o z) (reach_test rows t x (forward rows arena) n r a it) h))
+        ⊎_elim (λ (it : is_test r.form ≡ true). caught_from p n r (tested (t n) r.form (map (reach rows t x) (heads r.form r.parts))) a low (tested_from p it b) z (subst (λ (o : Outs). Has o z) (reach_test rows t x (forward rows arena) n r a it) h))
         (λ (nt : is_test r.form ≡ false).
-        caught_from p n r (chain none (acted t x n r.form (arms_outs (reach rows t x) rows r)) (map (reach rows t x) (heads r.form r.parts))) a low
+        caught_from p n r (chain none (acted (t n) x r.form (arms_outs (reach rows t x) rows r)) (map (reach rows t x) (heads r.form r.parts))) a low
         (λ y g. ⊎_elim (λ (l : Has none y). absurd (no_none y l)) (λ (w : From p n u k y). w)
         (line_from p (heads r.form r.parts) 0 none nt (λ j d q m e. let s : j ≡ m = omega (arith, e) in subst (λ (v : ℕ). IsHead r v d) s q) (omega arith) (begin p (heads r.form r.parts) refl nt b) y g))
         z (subst (λ (o : Outs). Has o z) (reach_plain rows t x (forward rows arena) n r a nt) h))
@@ -404,8 +404,9 @@ module _ (rows : List Row) (arena : IsArena rows) (t : Option NodeId) (x : Varia
   unassigned : (p : Point) → B (Before body) p → IsSetBefore rows scope body x p → ⊥
   unassigned p b all = let w = bare_way rows scope body x (Before body) p b in w.2 (all w.0 w.1)
 
-  pub not_found : ((n : NodeId) → is_goal t n ≡ true → IsSetBefore rows scope body x (Acts n)) → (T body).found ≡ true → ⊥
-  not_found all h = let w = walked Found h in unassigned (Acts w.0) w.2 (all w.0 w.1)
+  -- what is found is a use of at most that rank, to which a way without an assignment leads
+  pub found_bare : (j : ℕ) → within j (T body).found ≡ true → (n : NodeId) × (within j (t n) ≡ true) × ¬ (IsSetBefore rows scope body x (Acts n))
+  found_bare j h = let w = walked (Found j) h in (w.0, w.1, unassigned (Acts w.0) w.2)
 
   pub not_ended : IsSetBefore rows scope body x End → reaches_end (T body) ≡ true → ⊥
   not_ended all h =

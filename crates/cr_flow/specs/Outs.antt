@@ -1,5 +1,5 @@
 -- Where an evaluation can lead without an assignment, in one pass over the tree.
-use Rattle.std.specs.Prelude.{◌≡◌, ◌<◌, ℕ, zero, suc, ◌-◌, ◌||◌, ◌==◌, Bool, true, false, if◌then◌else◌, Option, Some, None, List, [], ◌∷◌, length, map, slice_get}
+use Rattle.std.specs.Prelude.{◌≡◌, ℕ, zero, suc, ◌-◌, ◌||◌, ◌==◌, nat_lt, Bool, true, false, if◌then◌else◌, Option, Some, None, List, [], ◌∷◌, length, map, slice_get}
 use Rattle.cr_base.specs.declared.ids.NodeId.{NodeId}
 use Rattle.cr_core.specs.declared.form.Form.{Form}
 use Rattle.cr_core.specs.declared.row.Row.{Row}
@@ -11,14 +11,23 @@ use Rattle.cr_flow.specs.declared.variable.Arm.TheVariants.{Part, Give}
 use Rattle.cr_flow.specs.declared.outs.Outs.{Outs}
 use Rattle.cr_flow.specs.Control.{is_test, arm, keeps, ends, is_break, is_next, is_return, assigns, has_arm, is_clause, is_choice, runs_apart, heads, last}
 
+-- of two ranks the lower one
+abbrev pub lower : ℕ → ℕ → ℕ
+lower a b = if nat_lt a b then a else b
+
+abbrev pub least : Option ℕ → Option ℕ → Option ℕ
+least None b = b
+least (Some a) None = Some a
+least (Some a) (Some b) = Some (lower a b)
+
 abbrev pub ending : Bool → Bool → Outs
-ending t u = record { found = false; yes = t; no = u; leaves = false; skips = false; returns = false }
+ending t u = record { found = None; yes = t; no = u; leaves = false; skips = false; returns = false }
 
 abbrev pub none : Outs
 none = ending false false
 
 abbrev pub join : Outs → Outs → Outs
-join a b = record { found = a.found || b.found; yes = a.yes || b.yes; no = a.no || b.no; leaves = a.leaves || b.leaves; skips = a.skips || b.skips; returns = a.returns || b.returns }
+join a b = record { found = least a.found b.found; yes = a.yes || b.yes; no = a.no || b.no; leaves = a.leaves || b.leaves; skips = a.skips || b.skips; returns = a.returns || b.returns }
 
 abbrev pub also : Bool → Outs → Outs → Outs
 also b a o = if b then join a o else a
@@ -47,22 +56,19 @@ caught_by Plain o = o
 abbrev pub caught : Form → Outs → Outs
 caught form o = caught_by (opening form) o
 
-abbrev pub is_goal : Option NodeId → NodeId → Bool
-is_goal None n = false
-is_goal (Some t) n = n.0 == t.0
-
 -- what the act leads to of itself, and with what it may run
 abbrev pub act : Form → Outs
-act form = record { found = false; yes = ends form Yes; no = ends form No; leaves = is_break form; skips = is_next form; returns = is_return form }
+act form = record { found = None; yes = ends form Yes; no = ends form No; leaves = is_break form; skips = is_next form; returns = is_return form }
 
 abbrev pub beside : Form → Outs → Outs
 beside form o = if runs_apart form then jumps o else either o
 
-abbrev pub here : Option NodeId → NodeId → Outs
-here t n = record none { found = is_goal t n }
+-- a node of this rank acts
+abbrev pub here : Option ℕ → Outs
+here k = record none { found = k }
 
-abbrev pub acted : Option NodeId → Variable → NodeId → Form → Outs → Outs
-acted t x n form o = if assigns form x then here t n else join (here t n) (join (act form) (beside form o))
+abbrev pub acted : Option ℕ → Variable → Form → Outs → Outs
+acted k x form o = if assigns form x then here k else join (here k) (join (act form) (beside form o))
 
 -- parts in order, then the act
 abbrev pub chain : Outs → Outs → List Outs → Outs
@@ -77,8 +83,8 @@ abbrev pub at : List Outs → ℕ → Outs
 at os i = at_in (slice_get os i)
 
 -- what the outcome of a condition leads to at once: its jumps, and the act of its row
-abbrev pub decided : Option NodeId → NodeId → Outs → Outs
-decided t n c = also (goes_on c) (jumps c) (here t n)
+abbrev pub decided : Option ℕ → Outs → Outs
+decided k c = also (goes_on c) (jumps c) (here k)
 
 -- by the outcome of the first part
 abbrev pub backed : Bool → Outs → Outs
@@ -88,13 +94,13 @@ abbrev pub armed : Form → List Outs → Arm → Outs
 armed form os (Part j) = backed (keeps form) (at os j)
 armed form os (Give t u) = ending t u
 
-abbrev pub tested : Option NodeId → NodeId → Form → List Outs → Outs
-tested t n form os = let c = at os 0 in also c.no (also c.yes (decided t n c) (armed form os (arm form Yes))) (armed form os (arm form No))
+abbrev pub tested : Option ℕ → Form → List Outs → Outs
+tested k form os = let c = at os 0 in also c.no (also c.yes (decided k c) (armed form os (arm form Yes))) (armed form os (arm form No))
 
 -- before a row goes on as its last part: of its first part, and of what is done where that holds
-abbrev pub led : Option NodeId → NodeId → (NodeId → Outs) → Outs → Option NodeId → Outs
-led t n g c None = decided t n c
-led t n g c (Some a) = also c.yes (decided t n c) (either (g a))
+abbrev pub led : Option ℕ → (NodeId → Outs) → Outs → Option NodeId → Outs
+led k g c None = decided k c
+led k g c (Some a) = also c.yes (decided k c) (either (g a))
 
 abbrev pub leads_on : Outs → Option NodeId → Bool
 leads_on c None = goes_on c
@@ -119,21 +125,21 @@ clauses_outs g rows all (c ∷ cs) = clauses_outs g rows (join all (clause_outs 
 abbrev pub arms_outs : (NodeId → Outs) → List Row → Row → Outs
 arms_outs g rows r = if is_choice r.form then clauses_outs g rows (own_outs g r) (heads r.form r.parts) else own_outs g r
 
--- a node
-abbrev pub inner : (NodeId → Outs) → List Row → Option NodeId → Variable → NodeId → Row → Outs
+-- a node, of which the ranks of nodes are told
+abbrev pub inner : (NodeId → Outs) → List Row → (NodeId → Option ℕ) → Variable → NodeId → Row → Outs
 inner g rows t x n r =
-    if is_test r.form then tested t n r.form (map g (heads r.form r.parts))
-    else chain none (acted t x n r.form (arms_outs g rows r)) (map g (heads r.form r.parts))
+    if is_test r.form then tested (t n) r.form (map g (heads r.form r.parts))
+    else chain none (acted (t n) x r.form (arms_outs g rows r)) (map g (heads r.form r.parts))
 
-abbrev pub outs_in : (NodeId → Outs) → List Row → Option NodeId → Variable → NodeId → Option Row → Outs
+abbrev pub outs_in : (NodeId → Outs) → List Row → (NodeId → Option ℕ) → Variable → NodeId → Option Row → Outs
 outs_in g rows t x n None = none
 outs_in g rows t x n (Some r) = caught r.form (inner g rows t x n r)
 
-abbrev pub outs_to : ℕ → List Row → Option NodeId → Variable → NodeId → Outs
+abbrev pub outs_to : ℕ → List Row → (NodeId → Option ℕ) → Variable → NodeId → Outs
 outs_to zero rows t x n = none
 outs_to (suc k) rows t x n = outs_in (outs_to k rows t x) rows t x n (slice_get rows n.0)
 
-unfoldable pub reach : List Row → Option NodeId → Variable → NodeId → Outs
+unfoldable pub reach : List Row → (NodeId → Option ℕ) → Variable → NodeId → Outs
 reach rows t x n = outs_to (length rows - n.0) rows t x n
 
 -- of rows that went on so, with what came before

@@ -15,7 +15,7 @@ pub fn captured(alloc: Global, tree: &CoreTree, scope: ScopeId) -> Result<Vec<us
     flagged(alloc, tree.scope(scope).slots.as_slice())
 }
 
-fn flagged(alloc: Global, slots: &[Slot]) -> Result<Vec<usize>, NoMemory>
+pub(crate) fn flagged(alloc: Global, slots: &[Slot]) -> Result<Vec<usize>, NoMemory>
     ensures { IfOk result (λ found. found.items ≡ flagged 0 slots.now) }
 {
     let mut found = Vec::new(alloc);

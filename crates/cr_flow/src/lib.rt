@@ -6,10 +6,11 @@ mod capture;
 mod chain;
 mod control;
 mod outs;
+mod rank;
 mod reach;
 mod variable;
 
-pub use assigned::{assigned_at_end, assigned_before};
+pub use assigned::{Unassigned, assigned_at_end, assigned_before, unassigned_uses};
 pub use capture::captured;
 pub use variable::Variable;
 

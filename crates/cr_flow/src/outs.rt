@@ -7,8 +7,8 @@ use cr_core::Form;
 /// Where an evaluation can lead without an assignment.
 #[derive(Clone, Copy, Debug, PartialEq, Eq)]
 pub(crate) struct Outs {
-    /// To what is asked for.
-    pub found: bool,
+    /// To nodes that are asked for: the least rank of such.
+    pub found: Option<u32>,
     /// To its end, with a truthy value.
     pub yes: bool,
     /// To its end, with a falsey value.
@@ -21,12 +21,30 @@ pub(crate) struct Outs {
     pub returns: bool,
 }
 
+fn lower(a: u32, b: u32) -> u32
+    ensures { result ≡ outs.lower a b }
+{
+    if a < b { a } else { b }
+}
+
+fn least(a: Option<u32>, b: Option<u32>) -> Option<u32>
+    ensures { result ≡ outs.least a b }
+{
+    match a {
+        Some(a) => match b {
+            Some(b) => Some(lower(a, b)),
+            None => Some(a),
+        },
+        None => b,
+    }
+}
+
 impl Outs {
     pub(crate) fn none() -> Outs
         ensures { result ≡ outs.none }
     {
         Outs {
-            found: false,
+            found: None,
             yes: false,
             no: false,
             leaves: false,
@@ -40,7 +58,7 @@ impl Outs {
         ensures { result ≡ outs.ending truthy falsey }
     {
         Outs {
-            found: false,
+            found: None,
             yes: truthy,
             no: falsey,
             leaves: false,
@@ -53,7 +71,7 @@ impl Outs {
         ensures { result ≡ outs.join self other }
     {
         Outs {
-            found: self.found || other.found,
+            found: least(self.found, other.found),
             yes: self.yes || other.yes,
             no: self.no || other.no,
             leaves: self.leaves || other.leaves,

@@ -1,8 +1,9 @@
-use Rattle.std.proofs.Common.{◌≡◌, ◌↔◌, IsTrue, Bool, true, refl, sym, ap, ◌∙◌, subst, List, None}
+use Rattle.std.proofs.Common.{◌≡◌, ◌↔◌, IsTrue, Bool, true, refl, sym, ap, ◌∙◌, subst, List, [], None}
 use Rattle.std.specs.Prelude.{not}
 use Rattle.cr_core.specs.declared.row.Row.{Row}
 use Rattle.cr_flow.specs.Ways.{End}
 use Rattle.cr_flow.specs.Assigned.{IsAssigned}
+use Rattle.cr_flow.specs.Uses.{asked}
 use Rattle.cr_flow.specs.Outs.{reach, reaches_end}
 use Rattle.cr_flow.specs.Chain.{IsForward}
 use Rattle.cr_flow.proofs.Parts.{forward}
@@ -16,10 +17,10 @@ returns-then-is_parameter c =
 
 pub returns-else-is_parameter : goal.returns-else-is_parameter
 returns-else-is_parameter c =
-    let same : c.reaches_end.result ≡ reaches_end (reach c.args.tree.now.rows None c.args.variable c.scope-it.result.now.body) =
-    c.reaches_end.ensures ∙ ap reaches_end (c.reach.ensures ∙ ap (λ (rows : List Row). reach rows None c.args.variable c.scope-it.result.now.body) c.rows.ensures.rows) in
+    let same : c.reaches_end.result ≡ reaches_end (reach c.args.tree.now.rows (asked c.args.tree.now.rows None [] c.args.variable) c.args.variable c.scope-it.result.now.body) =
+    c.reaches_end.ensures ∙ ap reaches_end (c.reach.ensures ∙ ap (λ (rows : List Row). reach rows (asked rows None [] c.args.variable) c.args.variable c.scope-it.result.now.body) c.rows.ensures.rows) in
     subst (λ (b : Bool). IsTrue (not b) ↔ IsAssigned c.args.tree.now c.args.scope c.args.variable End) (sym same)
-    (at_end c.args.tree.now c.args.scope c.args.variable c.scope-it.result.now c.scope-it.ensures c.rows.ensures.core (sym c.is_parameter.ensures ∙ c.if-is_parameter.false))
+    (at_end c.args.tree.now c.args.scope c.args.variable c.scope-it.result.now c.scope-it.ensures (asked c.args.tree.now.rows None [] c.args.variable) c.rows.ensures.core (sym c.is_parameter.ensures ∙ c.if-is_parameter.false))
 
 pub reach-requires : goal.reach-requires
 reach-requires c = subst (λ (rows : List Row). IsForward rows) (sym c.rows.ensures.rows) (forward c.args.tree.now.rows c.rows.ensures.core.arena)
