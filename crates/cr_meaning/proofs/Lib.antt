@@ -1,0 +1,6 @@
+mod Evolving
+mod Kept
+mod Sending
+mod Reducing
+mod Runs
+mod Choices

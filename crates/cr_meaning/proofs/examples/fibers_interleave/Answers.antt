@@ -1,0 +1,12 @@
+use Rattle.std.proofs.Common.{refl}
+use Rattle.std.specs.Fmt.{digits}
+use Rattle.cr_builtins.specs.Scalars.{scalar}
+use Rattle.cr_builtins.specs.Numbers.{on_integer, reckon}
+use Rattle.cr_meaning.specs.Term.{tree}
+use Rattle.cr_meaning.specs.Reduce.{reduce}
+use Rattle.cr_meaning.specs.Run.{run, start, after}
+use Rattle.cr_meaning.proofs.examples.fibers_interleave.Goals as goal
+
+pub returns : goal.returns
+unfolding run start after reduce tree digits scalar on_integer reckon
+returns c = record { behind = refl; at_once = refl; spent_behind = refl; spent_at_once = refl; nobody = refl; goes = refl }
