@@ -215,8 +215,15 @@ spawn_lays at None list c held = lays (tree.Spawn at None list) (of.of_spawn at 
 spawn_lays at (Some x) list c held = lays (tree.Spawn at (Some x) list) (of.of_spawn at (Some x) list) (λ level.
     let tail = spawn_tail list level held in
     receiver_fit x (word l.Spawn ∷ space ∷ word l.Do ∷ y.body level (map laid list)) level c (record {
-      fits = λ before s after e. (tt, refl, (tt, w.spawn_word.standing (put_behind before (k.Plain l.Dot)) false (text_of (space ∷ word l.Do ∷ y.body level (map laid list)) ++ after) (tail.stops after e),
-          tail.fits (put_behind (put_behind before (k.Plain l.Dot)) (k.Plain l.Spawn)) false after e));
+      fits = λ before s after e. (
+        tt,
+        refl,
+        (
+          tt,
+          w.spawn_word.standing (put_behind before (k.Plain l.Dot)) false (text_of (space ∷ word l.Do ∷ y.body level (map laid list)) ++ after) (tail.stops after e),
+          tail.fits (put_behind (put_behind before (k.Plain l.Dot)) (k.Plain l.Spawn)) false after e,
+        ),
+      );
       keeps = λ before. tail.keeps (put_behind (put_behind before (k.Plain l.Dot)) (k.Plain l.Spawn));
       stops = λ after e. refl;
     }))

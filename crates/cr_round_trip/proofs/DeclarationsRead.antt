@@ -178,10 +178,14 @@ accessors_reads seen at property x xs h hs level s =
     (λ zs q. gives (tree.Accessors place property zs) (un.of_accessors place property zs ∙ ap (λ (v : List Tree). tree.Accessors 0 property v) q ∙ sym (un.of_accessors at property (x ∷ xs))))))
 
 pub accessors_read : (at : ℕ) (property : Bool) (x : Tree) (xs : List Tree) → AccessorRead x → All AccessorRead xs → MemberRead (tree.Accessors at property (x ∷ xs))
-accessors_read at false x xs h hs = record { reads = λ level s. subst (λ (v : Laid). Reads (λ S. g.member S) (Like (tree.Accessors at false (x ∷ xs))) s (bare level v)) (sym (of.of_accessors at false (x ∷ xs)))
-    (other (other (other (one_of (accessors_reads l.Getter at false x xs h hs level s))))) }
-accessors_read at true x xs h hs = record { reads = λ level s. subst (λ (v : Laid). Reads (λ S. g.member S) (Like (tree.Accessors at true (x ∷ xs))) s (bare level v)) (sym (of.of_accessors at true (x ∷ xs)))
-    (other (other (other (other (accessors_reads l.Property at true x xs h hs level s))))) }
+accessors_read at false x xs h hs = record {
+  reads = λ level s. subst (λ (v : Laid). Reads (λ S. g.member S) (Like (tree.Accessors at false (x ∷ xs))) s (bare level v)) (sym (of.of_accessors at false (x ∷ xs)))
+      (other (other (other (one_of (accessors_reads l.Getter at false x xs h hs level s)))));
+}
+accessors_read at true x xs h hs = record {
+  reads = λ level s. subst (λ (v : Laid). Reads (λ S. g.member S) (Like (tree.Accessors at true (x ∷ xs))) s (bare level v)) (sym (of.of_accessors at true (x ∷ xs)))
+      (other (other (other (other (accessors_reads l.Property at true x xs h hs level s)))));
+}
 
 pub declaration_read : (at : ℕ) (name : List ℕ) (type : Tree) → Typed true type → MemberRead (tree.Declaration at name type)
 declaration_read at name type h = record {

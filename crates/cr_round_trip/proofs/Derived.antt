@@ -310,8 +310,10 @@ module _ (c : Claimed) (closed : Closed c) (S : Wanted → Form Tree) (given : G
     into_is = after an_ident (λ name h. after a_word (λ at u. gives (record { at = name.at; name = name.text; is = refl; proper = h })))
 
     receive_is : Claims (ex.receive S within free) (IsReceived Value)
-    receive_is = after postfix_is (λ channel hc. after a_word (λ at u. after an_ident (λ name h. record { holds = λ w x t p.
-        record { place = name.at; channel = channel; name = name.text; is = t.1.1; held = hc; proper = h; receives = t.0 } })))
+    receive_is = after postfix_is (λ channel hc. after a_word (λ at u. after an_ident (λ name h. record {
+      holds = λ w x t p.
+          record { place = name.at; channel = channel; name = name.text; is = t.1.1; held = hc; proper = h; receives = t.0 };
+    })))
 
     send_is : Claims (ex.send S within free) (IsSent Value)
     send_is = after postfix_is (λ channel hc. after a_word (λ at u. after this_word (λ at' u'. after (closely (within_parentheses (given.or within true))) (λ x hx.

@@ -111,7 +111,7 @@ word_fit look qs is tail = record {
 pub opener_fit : (look : TokenLook) (ps qs : List Piece) → IsOpener look → Opens look → Fit ps → Tail qs → Fit (word look ∷ space ∷ (ps ++ qs))
 opener_fit look ps qs is opens fit tail =
     let whole : Fit (ps ++ qs) = with_tail ps qs fit tail in record {
-      fits = λ before s after ready e. (tt, is.standing before s (text_of (ps ++ qs) ++ after) , whole.fits (put_behind before (k.Plain look)) true after is.ready e);
+      fits = λ before s after ready e. (tt, is.standing before s (text_of (ps ++ qs) ++ after), whole.fits (put_behind before (k.Plain look)) true after is.ready e);
       keeps = keeps_word look (space ∷ (ps ++ qs)) is.keeping whole.keeps;
       opening = λ after. open_text look (space ∷ (ps ++ qs)) after opens;
     }

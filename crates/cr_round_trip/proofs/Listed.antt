@@ -76,9 +76,13 @@ pub parenthesized_tail : (pss : List (List Piece)) (qs : List Piece) → All Fit
 parenthesized_tail pss qs held tail =
     let ps = listed pss in
     let same : (ps ++ word l.CloseParenthesis ∷ []) ++ qs ≡ ps ++ (word l.CloseParenthesis ∷ qs) = pieces_assoc ps (word l.CloseParenthesis ∷ []) qs in record {
-      fits = λ before s after e. (tt, refl, subst (λ (v : List Piece). Fits (put_behind before (k.Plain l.OpenParenthesis)) false v after) (sym same)
-          (joined_fit comma commas pss held (put_behind before (k.Plain l.OpenParenthesis)) false (word l.CloseParenthesis ∷ qs) after refl refl
-          (λ b t kept. (tt, refl, tail.fits (put_behind b (k.Plain l.CloseParenthesis)) false after e))));
+      fits = λ before s after e. (
+        tt,
+        refl,
+        subst (λ (v : List Piece). Fits (put_behind before (k.Plain l.OpenParenthesis)) false v after) (sym same)
+            (joined_fit comma commas pss held (put_behind before (k.Plain l.OpenParenthesis)) false (word l.CloseParenthesis ∷ qs) after refl refl
+            (λ b t kept. (tt, refl, tail.fits (put_behind b (k.Plain l.CloseParenthesis)) false after e))),
+      );
       keeps = λ before. subst Keeps (sym same) (keeps_append ps (word l.CloseParenthesis ∷ qs) (joined_keep comma commas pss held) (λ b. tail.keeps (put_behind b (k.Plain l.CloseParenthesis)))) (put_behind before (k.Plain l.OpenParenthesis));
       stops = λ after e. refl;
     }

@@ -53,8 +53,12 @@ brackets_tail : (pss : List (List Piece)) (qs : List Piece) → All Fit pss → 
     → Tail (word l.OpenBracket ∷ (y.listed pss ++ word l.CloseBracket ∷ qs))
 brackets_tail pss qs held fits keeps =
     let ps = y.listed pss in record {
-      fits = λ before s after e. (tt, refl, joined_fit y.comma commas pss held (put_behind before (k.Plain l.OpenBracket)) false (word l.CloseBracket ∷ qs) after refl refl
-          (λ b t kept. (tt, refl, fits (put_behind b (k.Plain l.CloseBracket)) false after e)));
+      fits = λ before s after e. (
+        tt,
+        refl,
+        joined_fit y.comma commas pss held (put_behind before (k.Plain l.OpenBracket)) false (word l.CloseBracket ∷ qs) after refl refl
+            (λ b t kept. (tt, refl, fits (put_behind b (k.Plain l.CloseBracket)) false after e)),
+      );
       keeps = λ before. keeps_append ps (word l.CloseBracket ∷ qs) (joined_keep y.comma commas pss held) (λ b. keeps (put_behind b (k.Plain l.CloseBracket))) (put_behind before (k.Plain l.OpenBracket));
       stops = λ after e. refl;
     }
@@ -93,8 +97,12 @@ hash_lays at entries entry held type = lays (tree.Hash at entries entry) (of.of_
     let ps = y.listed pss in
     let qs = y.of_type level (option_map laid entry) in
     let tail = of_tail entry level type in record {
-      fits = λ before s after ready e. (tt, refl, joined_fit y.comma commas pss (bare_fit entries level held) (put_behind before (k.Plain l.OpenBrace)) false (word l.CloseBrace ∷ qs) after refl refl
-          (λ b t kept. (tt, brace_closes before.nesting b t (text_of qs ++ after) kept, tail.fits (put_behind b (k.Plain l.CloseBrace)) false after e)));
+      fits = λ before s after ready e. (
+        tt,
+        refl,
+        joined_fit y.comma commas pss (bare_fit entries level held) (put_behind before (k.Plain l.OpenBrace)) false (word l.CloseBrace ∷ qs) after refl refl
+            (λ b t kept. (tt, brace_closes before.nesting b t (text_of qs ++ after) kept, tail.fits (put_behind b (k.Plain l.CloseBrace)) false after e)),
+      );
       keeps = λ before. braces_level ps qs before (joined_keep y.comma commas pss (bare_fit entries level held)) tail.keeps;
       opening = λ after. refl;
     })

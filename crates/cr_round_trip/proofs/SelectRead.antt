@@ -107,14 +107,20 @@ module _ (within : Within) (at : ℕ) (operation : Tree) (list : List Tree) (hl 
 
 pub receives_read : (within : Within) (at : ℕ) (into : Option Tree) (place : ℕ) (channel : Tree) (name : List ℕ) (list : List Tree) → Any IsLocal into → Value within channel → IsReceive name → All (Value within) list
     → WhenRead within (tree.When at into (tree.Call place (Some channel) name [] None) list)
-receives_read within at None place channel name list hi hc is hl = record { reads = λ level s. up (When within true) (one_of
-    (without_target within at (tree.Call place (Some channel) name [] None) list hl (λ S. ex.receive S within true) (receive_reads within place channel name hc is) (λ S. maybe (ex.received_into S within true)) (λ S. refl) level s)) }
-receives_read within at (Some x) place channel name list hi hc is hl = record { reads = λ level s. up (When within true) (one_of
-    (with_target within at (tree.Call place (Some channel) name [] None) list hl (λ S. ex.receive S within true) (receive_reads within place channel name hc is) x hi level s)) }
+receives_read within at None place channel name list hi hc is hl = record {
+  reads = λ level s. up (When within true) (one_of
+      (without_target within at (tree.Call place (Some channel) name [] None) list hl (λ S. ex.receive S within true) (receive_reads within place channel name hc is) (λ S. maybe (ex.received_into S within true)) (λ S. refl) level s));
+}
+receives_read within at (Some x) place channel name list hi hc is hl = record {
+  reads = λ level s. up (When within true) (one_of
+      (with_target within at (tree.Call place (Some channel) name [] None) list hl (λ S. ex.receive S within true) (receive_reads within place channel name hc is) x hi level s));
+}
 
 pub sends_read : (within : Within) (at place : ℕ) (channel x : Tree) (list : List Tree) → Value within channel → Value within x → All (Value within) list → WhenRead within (tree.When at None (tree.Call place (Some channel) o.send_name (x ∷ []) None) list)
-sends_read within at place channel x list hc hx hl = record { reads = λ level s. up (When within true) (other
-    (without_target within at (tree.Call place (Some channel) o.send_name (x ∷ []) None) list hl (λ S. ex.send S within true) (send_reads within place channel x hc hx) (λ S. nothing None) (λ S. (refl, refl)) level s)) }
+sends_read within at place channel x list hc hx hl = record {
+  reads = λ level s. up (When within true) (other
+      (without_target within at (tree.Call place (Some channel) o.send_name (x ∷ []) None) list hl (λ S. ex.send S within true) (send_reads within place channel x hc hx) (λ S. nothing None) (λ S. (refl, refl)) level s));
+}
 
 -- ---- `select`
 

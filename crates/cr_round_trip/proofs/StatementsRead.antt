@@ -79,23 +79,29 @@ variable_target within op at name is = record {
 
 pub field_target : (within : Within) (op : Assignment) (at : ℕ) (x : Tree) (name : List ℕ) → OfField op → Value within x → TargetRead within op (tree.Call at (Some x) name [] None)
 field_target within op at x name apart hx = record {
-  reads = inr (apart, λ level s.
-      let ps = operand level (laid x) in
-      subst (λ (v : Laid). Reads (λ S. g.place S within) (Like (tree.Call at (Some x) name [] None)) s (bare level v)) (sym (of.of_call at (Some x) name [] None))
-      (as_pieces ((ps ++ y.word l.Dot ∷ []) ++ Put (k.Ident name) ∷ []) (ps ++ (y.word l.Dot ∷ Put (k.Ident name) ∷ [])) (pieces_assoc ps (y.word l.Dot ∷ []) (Put (k.Ident name) ∷ []))
-      (one_of (then ps (y.word l.Dot ∷ Put (k.Ident name) ∷ []) (as_operand within x hx level s) (λ z p. on_word l.Dot (Put (k.Ident name) ∷ []) (λ place. on_name (λ text. k.Ident text) name []
-      (λ place'. gives (tree.Call place' (Some z) name [] None) (same_call at place' (Some x) (Some z) name [] [] None None (some_like x z p) refl refl))))))));
+  reads = inr (
+    apart,
+    λ level s.
+        let ps = operand level (laid x) in
+        subst (λ (v : Laid). Reads (λ S. g.place S within) (Like (tree.Call at (Some x) name [] None)) s (bare level v)) (sym (of.of_call at (Some x) name [] None))
+        (as_pieces ((ps ++ y.word l.Dot ∷ []) ++ Put (k.Ident name) ∷ []) (ps ++ (y.word l.Dot ∷ Put (k.Ident name) ∷ [])) (pieces_assoc ps (y.word l.Dot ∷ []) (Put (k.Ident name) ∷ []))
+        (one_of (then ps (y.word l.Dot ∷ Put (k.Ident name) ∷ []) (as_operand within x hx level s) (λ z p. on_word l.Dot (Put (k.Ident name) ∷ []) (λ place. on_name (λ text. k.Ident text) name []
+        (λ place'. gives (tree.Call place' (Some z) name [] None) (same_call at place' (Some x) (Some z) name [] [] None None (some_like x z p) refl refl))))))),
+  );
   plain = λ level. subst (λ (v : Laid). begins_plainly (bare level v) ≡ true) (sym (of.of_call at (Some x) name [] None))
       (plain_front (operand level (laid x) ++ y.word l.Dot ∷ []) (Put (k.Ident name) ∷ []) (plain_front (operand level (laid x)) (y.word l.Dot ∷ []) (operand_plain within x hx level)));
 }
 
 pub index_target : (within : Within) (op : Assignment) (at : ℕ) (x z : Tree) (zs : List Tree) → OfField op → Value within x → All (Value within) (z ∷ zs) → TargetRead within op (tree.Index at x (z ∷ zs) false)
 index_target within op at x z zs apart hx hs = record {
-  reads = inr (apart, λ level s.
-      let ps = operand level (laid x) in let qs = index_list level (z ∷ zs) in
-      subst (λ (v : Laid). Reads (λ S. g.place S within) (Like (tree.Index at x (z ∷ zs) false)) s (bare level v)) (sym (of.of_index at x (z ∷ zs) false))
-      (other (then ps qs (as_operand within x hx level s) (λ v p. then_last qs (at_tight qs (operand_closes within x hx level s) (indices_read within level z zs hs))
-      (λ found h. gives (tree.Index found.0 v found.1 false) (same_index at found.0 x v (z ∷ zs) found.1 false false p h refl))))));
+  reads = inr (
+    apart,
+    λ level s.
+        let ps = operand level (laid x) in let qs = index_list level (z ∷ zs) in
+        subst (λ (v : Laid). Reads (λ S. g.place S within) (Like (tree.Index at x (z ∷ zs) false)) s (bare level v)) (sym (of.of_index at x (z ∷ zs) false))
+        (other (then ps qs (as_operand within x hx level s) (λ v p. then_last qs (at_tight qs (operand_closes within x hx level s) (indices_read within level z zs hs))
+        (λ found h. gives (tree.Index found.0 v found.1 false) (same_index at found.0 x v (z ∷ zs) found.1 false false p h refl))))),
+  );
   plain = λ level. subst (λ (v : Laid). begins_plainly (bare level v) ≡ true) (sym (of.of_index at x (z ∷ zs) false)) (plain_front (operand level (laid x)) (index_list level (z ∷ zs)) (operand_plain within x hx level));
 }
 
