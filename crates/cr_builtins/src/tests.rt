@@ -1,9 +1,8 @@
 use crate::{
-    Answer, Array, ArrayOperation, Comparison, Hash, HashOperation, NumberOperation, Operation,
-    Outcome, PlainOperation, Raise, Reckoning, ReferenceClass, ScalarOperation, TextOperation,
-    operation_of, scalar, unhandled,
+    Answer, Comparison, Hash, HashOperation, NumberOperation, Outcome, PlainOperation, Raise,
+    Reckoning, ReferenceClass, ScalarOperation, TextOperation, scalar, unhandled,
 };
-use cr_base::{BuiltinId, FiberId};
+use cr_base::FiberId;
 use cr_value::{CellRef, TEXT_LIMIT, Text, Value};
 use std::alloc::Global;
 use std::test::Fail;
@@ -325,21 +324,6 @@ fn text_at_the_limit_takes_no_byte_more(rt: HostRuntime) -> Result<(), Fail> {
 }
 
 #[test]
-fn lines_have_their_operations(rt: HostRuntime) -> Result<(), Fail> {
-    let binary = NumberOperation::Reckon(Reckoning::Subtract);
-    assert_eq!(rt;
-        operation_of(BuiltinId(6)),
-        Operation::Scalar(ScalarOperation::Int32(binary))
-    );
-    let unary = NumberOperation::Negate;
-    assert_eq!(rt;
-        operation_of(BuiltinId(34)),
-        Operation::Scalar(ScalarOperation::Int64(unary))
-    );
-    Ok(())
-}
-
-#[test]
 fn unhandled_exception_has_its_line(rt: HostRuntime) -> Result<(), Fail> {
     let raise = Raise::Closed;
     let line = unhandled(rt.alloc(), FiberId(12), raise.class_name(), raise.message())?;
@@ -353,88 +337,6 @@ fn unhandled_exception_has_its_line(rt: HostRuntime) -> Result<(), Fail> {
 // The answer as its Debug text.
 fn text_of(alloc: Global, answer: &Answer) -> Result<String, Fail> {
     Ok(format!(in alloc; "{answer:?}")?)
-}
-
-#[test]
-fn array_answers_what_the_table_says(rt: HostRuntime) -> Result<(), Fail> {
-    let alloc = rt.alloc();
-    let mut items = Vec::new(alloc);
-    for number in 1..4i32 {
-        items.push(Value::Small(number))?;
-    }
-    let mut array = Array::of(items);
-    let none = Written::Nothing;
-    for (operation, first, second, want) in [
-        (
-            ArrayOperation::Get,
-            Written::Small(-1),
-            none,
-            "Gives(Small(3))",
-        ),
-        (
-            ArrayOperation::Get,
-            Written::Small(-4),
-            none,
-            "Raises(Index)",
-        ),
-        (
-            ArrayOperation::Get,
-            Written::Small(3),
-            none,
-            "Raises(Index)",
-        ),
-        (ArrayOperation::Get, Written::Big(0), none, "Stuck"),
-        (
-            ArrayOperation::GetOrNil,
-            Written::Small(3),
-            none,
-            "Gives(Nil)",
-        ),
-        (
-            ArrayOperation::GetOrNil,
-            Written::Small(0),
-            none,
-            "Gives(Small(1))",
-        ),
-        (
-            ArrayOperation::Set,
-            Written::Small(-3),
-            Written::Small(7),
-            "Gives(Small(7))",
-        ),
-        (
-            ArrayOperation::Set,
-            Written::Small(3),
-            none,
-            "Raises(Index)",
-        ),
-        (ArrayOperation::Append, Written::Small(8), none, "Itself"),
-        (ArrayOperation::Push, Written::Small(9), none, "Itself"),
-        (ArrayOperation::Size, none, none, "Gives(Small(5))"),
-        (ArrayOperation::IsEmpty, none, none, "Gives(Flag(false))"),
-        (ArrayOperation::First, none, none, "Gives(Small(7))"),
-        (ArrayOperation::Last, none, none, "Gives(Small(9))"),
-        (ArrayOperation::Shift, none, none, "Gives(Small(7))"),
-        (ArrayOperation::ShiftOrNil, none, none, "Gives(Small(2))"),
-        (ArrayOperation::Pop, none, none, "Gives(Small(9))"),
-        (ArrayOperation::PopOrNil, none, none, "Gives(Small(8))"),
-        (ArrayOperation::Clear, none, none, "Itself"),
-        (ArrayOperation::Pop, none, none, "Raises(Index)"),
-        (ArrayOperation::PopOrNil, none, none, "Gives(Nil)"),
-        (ArrayOperation::Shift, none, none, "Raises(Index)"),
-        (ArrayOperation::ShiftOrNil, none, none, "Gives(Nil)"),
-        (ArrayOperation::First, none, none, "Raises(Index)"),
-        (ArrayOperation::Last, none, none, "Raises(Index)"),
-    ] {
-        let arguments = [value(alloc, first)?, value(alloc, second)?];
-        let answer = array.apply(alloc, operation, &arguments)?;
-        assert_eq!(rt;
-            text_of(alloc, &answer)?.as_str(),
-            want,
-            "{operation:?} {first:?}"
-        );
-    }
-    Ok(())
 }
 
 #[test]
