@@ -5,6 +5,7 @@ mod hostile;
 mod layouts;
 mod prelude;
 mod refusals;
+mod rewriting;
 mod shape;
 mod trees;
 

@@ -20,6 +20,3 @@ mod words;
 pub use program::rewrite_program;
 pub use rewritten::Rewritten;
 pub use slots::Slots;
-
-#[cfg(test)]
-mod tests;
