@@ -1,8 +1,7 @@
 -- The sums that are done, one line after another.
 use Rattle.std.proofs.Common.{◌≡◌, ℕ, ◌+◌, ◌<◌, ◌≤◌, List, [], ◌∷◌, ◌++◌, length, get_or, take, drop, Option, Some, None, sym, ap, ◌∙◌, arith, refl}
-use Rattle.std.proofs.lemmas.List.{append-nil, append_assoc, length-append, take_more, take-append-drop}
+use Rattle.std.proofs.lemmas.List.{append-nil, append_assoc, take_more, take-append-drop}
 use Rattle.std.proofs.lemmas.List.Concat.{flat_map-append}
-use Rattle.std.proofs.Math.Seq.{take-append-add}
 use Rattle.cr_io.specs.Sink.{Appends, AppendsFront}
 use Rattle.cr_tool.specs.declared.sums.Sum.{Sum}
 use Rattle.cr_tool.specs.declared.sums.Line.{Line}
@@ -54,11 +53,11 @@ appends_more (Some bytes) mid new a b first then =
     let there : Appends (Some (bytes ++ a)) b new = rw first at then in
     there ∙ ap (λ (t : List ℕ). Some t) (append_assoc bytes a b)
 
-appends_front : (old mid new : Option (List ℕ)) (a b : List ℕ) → Appends old a mid → AppendsFront mid b new → AppendsFront old (a ++ b) new
-appends_front None mid new a b first then = tt
-appends_front (Some bytes) mid new a b first then =
+appends_part : (old mid new : Option (List ℕ)) (a b : List ℕ) → Appends old a mid → AppendsFront mid b new → (n : ℕ) × Appends old (a ++ take n b) new
+appends_part None mid new a b first then = (0, tt)
+appends_part (Some bytes) mid new a b first then =
     let there : AppendsFront (Some (bytes ++ a)) b new = rw first at then in
-    (length a + there.0, there.1 ∙ ap (λ (t : List ℕ). Some t) (append_assoc bytes a (take there.0 b) ∙ ap (λ (t : List ℕ). bytes ++ t) (sym (take-append-add a b there.0))))
+    (there.0, there.1 ∙ ap (λ (t : List ℕ). Some t) (append_assoc bytes a (take there.0 b)))
 
 -- An evaluation that stops at the sum of line i.
 pub stopped_at : (lines : List Line) (i : ℕ) (s : Sum) (why : Stop) (old mid new : Option (List ℕ)) (turns : ℕ) (result : Evaluated) → i < length lines → get_or lines i Blank ≡ Puts s → turns ≡ turns_of (sums_of (take i lines)) → Appends old (output_of (sums_of (take i lines))) mid → result.stop ≡ Some why → result.turns ≡ turns + turns_at why s → (why ≡ stop.NoMemory → new ≡ mid) → (why ≡ stop.Failed → AppendsFront mid (output_line s) new) → HasWritten (sums_of lines) old new result
@@ -67,19 +66,19 @@ stopped_at lines i s stop.NoMemory old mid new turns result within is so_far wro
   rest = sums_of (drop i lines);
   parts = parts lines i;
   all = λ end. absurd (let never : ⊥ = cc in never);
-  some = λ end. absurd (let never : ⊥ = cc in never);
   turns_are = omega arith;
   writes = rw (why, same refl) wrote;
 }
-stopped_at lines i s stop.Failed old mid new turns result within is so_far wrote why count same failed = record {
-  front = sums_of (take (i + 1) lines);
-  rest = sums_of (drop (i + 1) lines);
-  parts = parts lines (i + 1);
-  all = λ end. absurd (let never : ⊥ = cc in never);
-  some = λ end none. omega (arith, ap length none, ap length (puts_more lines i s within is), length-append (sums_of (take i lines)) (s ∷ []));
-  turns_are = omega (arith, ap turns_of (puts_more lines i s within is), turns_more (sums_of (take i lines)) s);
-  writes = rw (why, puts_more lines i s within is, output_more (sums_of (take i lines)) s) (appends_front old mid new (output_of (sums_of (take i lines))) (output_line s) wrote (failed refl));
-}
+stopped_at lines i s stop.Failed old mid new turns result within is so_far wrote why count same failed =
+    let part = appends_part old mid new (output_of (sums_of (take i lines))) (output_line s) wrote (failed refl) in
+    record {
+      front = sums_of (take (i + 1) lines);
+      rest = sums_of (drop (i + 1) lines);
+      parts = parts lines (i + 1);
+      all = λ end. absurd (let never : ⊥ = cc in never);
+      turns_are = omega (arith, ap turns_of (puts_more lines i s within is), turns_more (sums_of (take i lines)) s);
+      writes = rw why (record { done = sums_of (take i lines); last = s; parts = puts_more lines i s within is; came = part.0; written = part.1 });
+    }
 
 -- an evaluation that stops for want of memory leaves the count of faults as it was
 pub steady_at : (why : Stop) (answer : Option Stop) (first mid last : ℕ) → answer ≡ Some why → mid ≡ first → (why ≡ stop.NoMemory → last ≡ mid) → (answer ≡ Some stop.Failed → ⊥) → last ≡ first

@@ -9,11 +9,10 @@ use Rattle.cr_tool.specs.declared.ending.Ending.TheVariants as ending
 use Rattle.cr_tool.specs.declared.sums.Line.{Line}
 use Rattle.cr_tool.specs.Sums.{IsUnbuilt, HasForm, spelling, text_of, most_lines}
 use Rattle.cr_tool.specs.State.{State}
-use Rattle.cr_tool.specs.Outside.{Reading, Writing}
-use Rattle.cr_tool.specs.Refusals.{Demand, list_of_sums, RefusalsAreExact}
+use Rattle.cr_tool.specs.Outside.{Outside, FailsWriting, IsWhole}
+use Rattle.cr_tool.specs.Refusals.{Demand, list_of_sums, Takes, RefusalsAreExact}
 use Rattle.cr_tool.specs.Answer.{CauseBefore, IsExact}
 use Rattle.cr_tool.specs.Run.{CauseAfter, Cause, IsRun}
-use Rattle.cr_tool.proofs.Lines.{not_both}
 
 -- ---- a source is refused at one place
 
@@ -52,61 +51,63 @@ one_place source p q one two =
 
 -- ---- each ending
 
-pub exact_before : RefusalsAreExact → (demand : Demand) (done e : Ending) (bytes : List ℕ) (source : Reading) (out : Writing) → CauseBefore demand e bytes source → IsExact demand done e bytes source out
-exact_before law demand done (ending.Refused refusal) bytes source out cause = record {
-  accepted = λ takes short read write. absurd (law.taken demand bytes refusal cause.0 takes);
-  fault_of_tokens = λ f may fault short read. inl (law.tokens demand bytes refusal f cause.0 fault);
-  not_built = λ at x lacks program short read. inl (law.program demand bytes refusal at x cause.0 lacks program);
+pub exact_before : RefusalsAreExact → (demand : Demand) (done e : Ending) (bytes : List ℕ) (outside : Outside) → CauseBefore demand e bytes outside.source → IsExact demand done e bytes outside
+exact_before law demand done (ending.Refused refusal) bytes outside cause = record {
+  taken = λ takes short read write. absurd (law.never_both demand bytes refusal cause.0 takes);
+  refused = λ other short read. inl (refusal, cause.0, refl);
   too_long = λ long read. absurd (omega (arith, cause.1.short));
 }
-exact_before law demand done ending.SourceTooLong bytes source out cause = record {
-  accepted = λ takes short read write. absurd (omega (arith, short, cause.0));
-  fault_of_tokens = λ f may fault short read. absurd (omega (arith, short, cause.0));
-  not_built = λ at x lacks program short read. absurd (omega (arith, short, cause.0));
+exact_before law demand done ending.SourceTooLong bytes outside cause = record {
+  taken = λ takes short read write. absurd (omega (arith, short, cause.0));
+  refused = λ other short read. absurd (omega (arith, short, cause.0));
   too_long = λ long read. inl refl;
 }
-exact_before law demand done (ending.ReadFault place) bytes source out cause = record {
-  accepted = λ takes short read write. absurd (read cause.1);
-  fault_of_tokens = λ f may fault short read. absurd (read cause.1);
-  not_built = λ at x lacks program short read. absurd (read cause.1);
+exact_before law demand done (ending.ReadFault place) bytes outside cause = record {
+  taken = λ takes short read write. absurd (read cause.1);
+  refused = λ other short read. absurd (read cause.1);
   too_long = λ long read. absurd (read cause.1);
 }
-exact_before law demand done ending.NoMemory bytes source out cause = record {
-  accepted = λ takes short read write. inr refl;
-  fault_of_tokens = λ f may fault short read. inr refl;
-  not_built = λ at x lacks program short read. inr refl;
+exact_before law demand done ending.NoMemory bytes outside cause = record {
+  taken = λ takes short read write. inr refl;
+  refused = λ other short read. inr refl;
   too_long = λ long read. inr refl;
 }
-exact_before law demand done ending.Told bytes source out cause = absurd cause
-exact_before law demand done ending.Finished bytes source out cause = absurd cause
-exact_before law demand done ending.Usage bytes source out cause = absurd cause
-exact_before law demand done (ending.WriteFault place) bytes source out cause = absurd cause
+exact_before law demand done ending.Told bytes outside cause = absurd cause
+exact_before law demand done ending.Finished bytes outside cause = absurd cause
+exact_before law demand done ending.Usage bytes outside cause = absurd cause
+exact_before law demand done (ending.WriteFault place) bytes outside cause = absurd cause
 
-exact_after : (e : Ending) (bytes : List ℕ) (budget : ℕ) (source : Reading) (out : Writing) (history : List Entry) (errors : List ℕ) (end : State) → IsRun bytes source budget history errors end → CauseAfter e budget out history end → IsExact list_of_sums ending.Finished e bytes source out
-exact_after ending.Finished bytes budget source out history errors end ran cause = record {
-  accepted = λ takes short read write. inl refl;
-  fault_of_tokens = λ f may fault short read. absurd (not_both bytes ran.follows.lines may.0 ran.follows.spelled may.1);
-  not_built = λ at x lacks program short read. absurd (not_both bytes ran.follows.lines at ran.follows.spelled lacks);
-  too_long = λ long read. absurd (omega (arith, ran.whole.short));
+-- what a command did its work on is taken, and so is not refused
+pub exact_done : (demand : Demand) (done : Ending) (bytes : List ℕ) (outside : Outside) → Takes demand bytes → IsWhole bytes outside.source → IsExact demand done done bytes outside
+exact_done demand done bytes outside takes whole = record {
+  taken = λ taken short read write. inl refl;
+  refused = λ other short read. absurd (other takes);
+  too_long = λ long read. absurd (omega (arith, long, whole.short));
 }
-exact_after (ending.WriteFault place) bytes budget source out history errors end ran cause = record {
-  accepted = λ takes short read write. absurd (write cause.1);
-  fault_of_tokens = λ f may fault short read. absurd (not_both bytes ran.follows.lines may.0 ran.follows.spelled may.1);
-  not_built = λ at x lacks program short read. absurd (not_both bytes ran.follows.lines at ran.follows.spelled lacks);
-  too_long = λ long read. absurd (omega (arith, ran.whole.short));
+
+pub exact_failed : (demand : Demand) (done e : Ending) (bytes : List ℕ) (outside : Outside) → Takes demand bytes → IsWhole bytes outside.source → FailsWriting outside.out → IsExact demand done e bytes outside
+exact_failed demand done e bytes outside takes whole fails = record {
+  taken = λ taken short read write. absurd (write fails);
+  refused = λ other short read. absurd (other takes);
+  too_long = λ long read. absurd (omega (arith, long, whole.short));
 }
-exact_after ending.NoMemory bytes budget source out history errors end ran cause = record {
-  accepted = λ takes short read write. inr refl;
-  fault_of_tokens = λ f may fault short read. inr refl;
-  not_built = λ at x lacks program short read. inr refl;
+
+exact_after : (e : Ending) (bytes : List ℕ) (budget : ℕ) (outside : Outside) (history : List Entry) (errors : List ℕ) (begin end : State) → IsRun bytes budget outside history errors begin end → CauseAfter e budget outside.out history begin end → IsExact list_of_sums ending.Finished e bytes outside
+exact_after ending.Finished bytes budget outside history errors begin end ran cause =
+    exact_done list_of_sums ending.Finished bytes outside (ran.begins.lines, ran.begins.spelled) ran.whole
+exact_after (ending.WriteFault place) bytes budget outside history errors begin end ran cause =
+    exact_failed list_of_sums ending.Finished (ending.WriteFault place) bytes outside (ran.begins.lines, ran.begins.spelled) ran.whole cause.1
+exact_after ending.NoMemory bytes budget outside history errors begin end ran cause = record {
+  taken = λ takes short read write. inr refl;
+  refused = λ other short read. inr refl;
   too_long = λ long read. inr refl;
 }
-exact_after ending.Told bytes budget source out history errors end ran cause = absurd cause
-exact_after ending.Usage bytes budget source out history errors end ran cause = absurd cause
-exact_after (ending.Refused refusal) bytes budget source out history errors end ran cause = absurd cause
-exact_after ending.SourceTooLong bytes budget source out history errors end ran cause = absurd cause
-exact_after (ending.ReadFault place) bytes budget source out history errors end ran cause = absurd cause
+exact_after ending.Told bytes budget outside history errors begin end ran cause = absurd cause
+exact_after ending.Usage bytes budget outside history errors begin end ran cause = absurd cause
+exact_after (ending.Refused refusal) bytes budget outside history errors begin end ran cause = absurd cause
+exact_after ending.SourceTooLong bytes budget outside history errors begin end ran cause = absurd cause
+exact_after (ending.ReadFault place) bytes budget outside history errors begin end ran cause = absurd cause
 
-pub exact : RefusalsAreExact → (e : Ending) (bytes : List ℕ) (budget : ℕ) (source : Reading) (out : Writing) (history : List Entry) (errors : List ℕ) → Cause e bytes budget source out history errors → IsExact list_of_sums ending.Finished e bytes source out
-exact law e bytes budget source out history errors (inl before) = exact_before law list_of_sums ending.Finished e bytes source out before.0
-exact law e bytes budget source out history errors (inr ran) = exact_after e bytes budget source out history errors ran.0 ran.1 ran.2
+pub exact : RefusalsAreExact → (e : Ending) (bytes : List ℕ) (budget : ℕ) (outside : Outside) (history : List Entry) (errors : List ℕ) → Cause e bytes budget outside history errors → IsExact list_of_sums ending.Finished e bytes outside
+exact law e bytes budget outside history errors (inl before) = exact_before law list_of_sums ending.Finished e bytes outside before.0
+exact law e bytes budget outside history errors (inr ran) = exact_after e bytes budget outside history errors ran.0 ran.1 ran.2 ran.3

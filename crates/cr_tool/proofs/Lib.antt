@@ -11,5 +11,6 @@ pub mod Refusals
 pub mod Reports
 pub mod Tellings
 pub mod CommandLines
+pub mod Answering
 pub mod OneProgram
 pub mod Deciding

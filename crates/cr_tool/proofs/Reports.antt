@@ -14,10 +14,11 @@ use Rattle.cr_tool.specs.declared.sums.Line.{Line}
 use Rattle.cr_tool.specs.declared.words.RunWords.{RunWords}
 use Rattle.cr_tool.specs.Sums.{most_lines}
 use Rattle.cr_tool.specs.Words.{IsRunLine}
-use Rattle.cr_tool.specs.State.{State}
+use Rattle.cr_tool.specs.State.{State, start}
+use Rattle.cr_tool.specs.Program.{program}
 use Rattle.cr_tool.specs.Endings.{closing}
 use Rattle.cr_tool.specs.Closed.{text_by}
-use Rattle.cr_tool.specs.Outside.{Reading, Writing, ReadsWell, Writes}
+use Rattle.cr_tool.specs.Outside.{Reading, Writing, Outside, ReadsWell, Writes}
 use Rattle.cr_tool.specs.Refusals.{list_of_sums, RefusalsAreExact}
 use Rattle.cr_tool.specs.Run.{CauseAfter, IsReport}
 use Rattle.cr_tool.specs.Opened.{LineIs, IsClosed, IsProgram}
@@ -47,26 +48,28 @@ writes_by sink text (Ok done) ok err cause = record { whole = λ none. ok; front
 writes_by sink text (Err failed) ok err cause = record { whole = λ none. absurd (none cause.failed); front = err }
 
 -- no refusal comes after a run
-line_after : (bytes text : List ℕ) (e : Ending) (budget : ℕ) (out : Writing) (history : List Entry) (end : State) → CauseAfter e budget out history end → LineIs bytes e text
-line_after bytes text (ending.Refused refusal) budget out history end cause = absurd cause
-line_after bytes text ending.Told budget out history end cause = tt
-line_after bytes text ending.Finished budget out history end cause = tt
-line_after bytes text ending.Usage budget out history end cause = tt
-line_after bytes text ending.SourceTooLong budget out history end cause = tt
-line_after bytes text (ending.ReadFault place) budget out history end cause = tt
-line_after bytes text (ending.WriteFault place) budget out history end cause = tt
-line_after bytes text ending.NoMemory budget out history end cause = tt
+line_after : (bytes text : List ℕ) (e : Ending) (budget : ℕ) (out : Writing) (history : List Entry) (begin end : State) → CauseAfter e budget out history begin end → LineIs bytes e text
+line_after bytes text (ending.Refused refusal) budget out history begin end cause = absurd cause
+line_after bytes text ending.Told budget out history begin end cause = tt
+line_after bytes text ending.Finished budget out history begin end cause = tt
+line_after bytes text ending.Usage budget out history begin end cause = tt
+line_after bytes text ending.SourceTooLong budget out history begin end cause = tt
+line_after bytes text (ending.ReadFault place) budget out history begin end cause = tt
+line_after bytes text (ending.WriteFault place) budget out history begin end cause = tt
+line_after bytes text ending.NoMemory budget out history begin end cause = tt
 
 pub ended_run : (source : Reading) (out : Writing) (lines : List Line) (ended : Ended) → IsProgram source lines → IsEndOfRun lines out ended → IsEnded source out ended
 ended_run source out lines ended opened run = record {
   bytes = opened.bytes;
   told = opened.told;
-  line = line_after opened.bytes (string_bytes ended.closed.line) ended.closed.ending 0 out ended.history.entries run.end (run.cause 0);
-  cause = λ budget enough. inr (
+  line = line_after opened.bytes (string_bytes ended.closed.line) ended.closed.ending 0 out ended.history.entries (start (program lines)) run.end (run.cause 0);
+  cause = λ budget outside enough. inr (
+    start (program lines),
     run.end,
     record {
       whole = opened.whole;
-      follows = record { lines = lines; spelled = opened.spelled; legal = run.legal };
+      begins = record { lines = lines; spelled = opened.spelled; at_start = refl };
+      legal = run.legal;
       errors_are = sym run.no_errors;
       within = omega (arith, run.few, enough);
     },
@@ -80,22 +83,22 @@ ended_closed source written faults ended is none = record {
   bytes = is.bytes;
   told = is.told;
   line = is.line;
-  cause = λ budget enough. inl (is.cause, record { no_history = none; no_errors = refl; no_output = untouched written faults });
+  cause = λ budget outside enough. inl (is.cause, record { no_history = none; no_errors = refl; no_output = untouched written faults });
 }
 
 -- nothing was done, since memory ran out before
 pub ended_before : (source : Reading) (written : Option (List ℕ)) (faults : ℕ) (ended : Ended) → ended.closed.ending ≡ ending.NoMemory → ended.history.entries ≡ [] → ReadsWell source → IsEnded source (left_alone written faults) ended
 ended_before source written faults ended is none well = ended_closed source written faults ended (closed_memory source ended.closed is well list_of_sums) none
 
-pub reported : RefusalsAreExact → (budget : ℕ) (source : Reading) (out err : Writing) (ended : Ended) (report : Report) → 3 * most_lines ≤ budget → IsEnded source out ended → IsFinished ended err report → IsReport budget source out err report
-reported law budget source out err ended report enough is finished =
-    let cause = is.cause budget enough in
+pub reported : RefusalsAreExact → (budget : ℕ) (outside : Outside) (ended : Ended) (report : Report) → 3 * most_lines ≤ budget → IsEnded outside.source outside.out ended → IsFinished ended outside.err report → IsReport budget outside report
+reported law budget outside ended report enough is finished =
+    let cause = is.cause budget outside enough in
     record {
       bytes = is.bytes;
       told = is.told;
       errors = [];
       cause = rw (finished.ending_is, finished.history_is) cause;
-      exact = rw finished.ending_is (exact law ended.closed.ending is.bytes budget source out ended.history.entries [] cause);
+      exact = rw finished.ending_is (exact law ended.closed.ending is.bytes budget outside ended.history.entries [] cause);
       status = finished.status;
       errors_written = finished.line is.bytes is.line;
     }

@@ -15,10 +15,11 @@ use Rattle.cr_tool.specs.declared.sums.Line.{Line}
 use Rattle.cr_tool.specs.declared.sums.Line.TheVariants.{Blank, Puts}
 use Rattle.cr_tool.specs.Sums.{IsLiteral, IsSum, HasForm}
 use Rattle.cr_tool.specs.Term.{Term, value, puts, seq, is_int32, ended}
-use Rattle.cr_tool.specs.State.{State, status_with, start, reduce, reductions, run, done, main_status}
-use Rattle.cr_tool.specs.Program.{operand, statement, sequence, sums_of, program}
+use Rattle.cr_tool.specs.State.{State, status_with, start, reduce, reductions, run, without_last, done, main_status}
+use Rattle.cr_tool.specs.Program.{literal, operand, statement, sequence, sums_of, program}
 use Rattle.cr_tool.specs.Writing.{total_of, output_line, output_of, additions, turns_of, history_of}
 use Rattle.cr_tool.proofs.Literals.{own}
+use Rattle.cr_tool.proofs.Done.{turns_more}
 use Rattle.std.proofs.lemmas.Fmt.{digits_decimal}
 
 -- main alone, at this term, after this output
@@ -149,3 +150,64 @@ reaches lines (s ∷ ss) rest form is =
 pub turns_whole : (sums : List Sum) → turns_of sums ≢ 1
 turns_whole [] is = omega arith
 turns_whole (s ∷ ss) is = omega arith
+
+-- ---- up to the last reduction
+
+-- the term of some statements, of which the first has its number and is to write it
+abbrev pub counted : Sum → List Sum → Term
+counted s [] = puts (literal (total_of s.first s.second))
+counted s (r ∷ rs) = seq (puts (literal (total_of s.first s.second))) (sequence (map statement (r ∷ rs)))
+
+adds_alone : (first : ℕ) (second : Option ℕ) (output : List ℕ) → IsLiteral first → IfSome second IsLiteral → reductions (additions second) (at (puts (operand first second)) output) 0 ≡ Some (at (puts (literal (total_of first second))) output)
+adds_alone first None output small none = refl
+adds_alone first (Some second) output small_first small_second =
+    let whole : is_int32 (pos first +ℤ pos second) ≡ true = fits first second small_first small_second in
+    rw whole (ap (λ (o : List ℕ). Some (at (puts (literal (first + second))) o)) (append-nil output))
+
+adds_before : (first : ℕ) (second : Option ℕ) (rest : Term) (output : List ℕ) → IsLiteral first → IfSome second IsLiteral → reductions (additions second) (at (seq (puts (operand first second)) rest) output) 0 ≡ Some (at (seq (puts (literal (total_of first second))) rest) output)
+adds_before first None rest output small none = refl
+adds_before first (Some second) rest output small_first small_second =
+    let whole : is_int32 (pos first +ℤ pos second) ≡ true = fits first second small_first small_second in
+    rw whole (ap (λ (o : List ℕ). Some (at (seq (puts (literal (first + second))) rest) o)) (append-nil output))
+
+adds : (s : Sum) (rest : List Sum) (output : List ℕ) → IsSum s → reductions (additions s.second) (at (sequence (map statement (s ∷ rest))) output) 0 ≡ Some (at (counted s rest) output)
+adds s [] output form = adds_alone s.first s.second output form.0 form.1
+adds s (r ∷ rs) output form = adds_before s.first s.second (sequence (map statement (r ∷ rs))) output form.0 form.1
+
+up_to : (before : List Sum) (last : Sum) (rest : List Sum) → AreSums before → reductions (turns_of before) (at (sequence (map statement (before ++ last ∷ rest))) []) 0 ≡ Some (at (sequence (map statement (last ∷ rest))) (output_of before))
+up_to [] last rest form = refl
+up_to (s ∷ ss) last rest form =
+    let count : turns_of (s ∷ ss) ≡ turns_of (s ∷ ss) - 1 + 1 = omega arith in
+    ap (λ (n : ℕ). reductions n (at (sequence (map statement (s ∷ ss ++ last ∷ rest))) []) 0) count
+    ∙ reductions-add (turns_of (s ∷ ss) - 1) 1 _ _ 0 (evaluates s ss (last ∷ rest) [] form)
+    ∙ ap (option_and_then (λ (mid : State). Some mid)) (going_on (sequence (map statement (last ∷ rest))) (output_of (s ∷ ss)))
+
+last_form : (before : List Sum) (last : Sum) (rest : List Sum) → AreSums (before ++ last ∷ rest) → IsSum last
+last_form [] last rest form = form.0
+last_form (s ∷ ss) last rest form = last_form ss last rest form.1
+
+all_but_last : (s : State) (n : ℕ) (end : State) → reductions n s 0 ≡ Some end → run s (without_last (history_of (suc (suc n)))) ≡ Some end
+all_but_last s zero end is = is
+all_but_last s (suc n) end is = legal_run s n end is
+
+-- what a history leads to without its last reduction, which writes the line of its last sum
+pub record ReachesBefore (lines : List Line) (history : List Entry) (before : List Sum) : Type 0 where
+  pub end : State
+  pub legal : run (start (program lines)) (without_last history) ≡ Some end
+  pub output : end.output ≡ output_of before
+
+pub reaches_before : (lines : List Line) (before : List Sum) (last : Sum) (rest : List Sum) → AllByRecursion HasForm lines → sums_of lines ≡ before ++ last ∷ rest → ReachesBefore lines (history_of (turns_of (before ++ last ∷ []))) before
+reaches_before lines before last rest form is =
+    let forms = subst AreSums is (sums_form lines form) in
+    let most = turns_of before + additions last.second in
+    let count : turns_of (before ++ last ∷ []) ≡ suc (suc most) = omega (arith, turns_more before last) in
+    let reached : reductions most (start (program lines)) 0 ≡ Some (at (counted last rest) (output_of before)) =
+    ap (λ (sums : List Sum). reductions most (at (sequence (map statement sums)) []) 0) is
+    ∙ reductions-add (turns_of before) (additions last.second) _ _ 0 (up_to before last rest (front_form before (last ∷ rest) forms))
+    ∙ adds last rest (output_of before) (last_form before last rest forms)
+    in
+    record {
+      end = at (counted last rest) (output_of before);
+      legal = ap (λ (n : ℕ). run (start (program lines)) (without_last (history_of n))) count ∙ all_but_last (start (program lines)) most _ reached;
+      output = refl;
+    }

@@ -1,5 +1,5 @@
 -- What a still command tells, to its report.
-use Rattle.std.proofs.Common.{◌≡◌, ℕ, List, [], Option, ap, ◌∙◌, arith, refl, inl, inr}
+use Rattle.std.proofs.Common.{◌≡◌, ℕ, List, [], Option, ap, ◌∙◌, inl, inr}
 use Rattle.cr_grammar.specs.declared.tree.Tree.{Tree}
 use Rattle.cr_schedule.specs.History.{Record}
 use Rattle.cr_tool.specs.declared.ending.Closed.{Closed}
@@ -8,7 +8,7 @@ use Rattle.cr_tool.specs.declared.ending.Ending.TheVariants as ending
 use Rattle.cr_tool.specs.declared.report.Ended.{Ended}
 use Rattle.cr_tool.specs.declared.report.Report.{Report}
 use Rattle.cr_tool.specs.declared.words.Still.{Still}
-use Rattle.cr_tool.specs.Outside.{Reading, Writing, ReadsWell}
+use Rattle.cr_tool.specs.Outside.{Reading, Outside, ReadsWell}
 use Rattle.cr_tool.specs.Refusals.{nothing, RefusalsAreExact}
 use Rattle.cr_tool.specs.Answer.{IsExact}
 use Rattle.cr_tool.specs.Still.{still_text, IsProgramOf, CauseOfTelling, StillCause, IsStillReport}
@@ -17,46 +17,37 @@ use Rattle.cr_tool.specs.Telling.{IsTold}
 use Rattle.cr_tool.specs.Reported.{IsFinished}
 use Rattle.cr_tool.proofs.Closings.{closed_memory}
 use Rattle.cr_tool.proofs.EndsOfRuns.{left_alone, untouched}
-use Rattle.cr_tool.proofs.Exactness.{exact_before}
+use Rattle.cr_tool.proofs.Exactness.{exact_before, exact_done, exact_failed}
 
 pub told_closed : (command : Still) (source : Reading) (written : Option (List ℕ)) (faults : ℕ) (closed : Closed) → IsClosed nothing source closed → IsTold command source (left_alone written faults) closed
 told_closed command source written faults closed is = record {
   bytes = is.bytes;
   told = is.told;
-  cause = inl (is.cause, untouched written faults);
+  cause = λ outside. inl (is.cause, untouched written faults);
   line = is.line;
 }
 
-exact_told : RefusalsAreExact → (e : Ending) (text bytes : List ℕ) (source : Reading) (out : Writing) (x : Tree) → IsProgramOf bytes source x → CauseOfTelling e text out → IsExact nothing ending.Told e bytes source out
-exact_told law ending.Told text bytes source out x program cause = record {
-  accepted = λ takes short read write. inl refl;
-  fault_of_tokens = λ f may fault short read. absurd (law.no_fault bytes f x program.is fault);
-  not_built = λ at y lacks is short read. absurd lacks;
-  too_long = λ long read. absurd (omega (arith, long, program.whole.short));
-}
-exact_told law (ending.WriteFault place) text bytes source out x program cause = record {
-  accepted = λ takes short read write. absurd (write cause.1);
-  fault_of_tokens = λ f may fault short read. absurd (law.no_fault bytes f x program.is fault);
-  not_built = λ at y lacks is short read. absurd lacks;
-  too_long = λ long read. absurd (omega (arith, long, program.whole.short));
-}
-exact_told law ending.Finished text bytes source out x program cause = absurd cause
-exact_told law ending.Usage text bytes source out x program cause = absurd cause
-exact_told law (ending.Refused refusal) text bytes source out x program cause = absurd cause
-exact_told law ending.SourceTooLong text bytes source out x program cause = absurd cause
-exact_told law (ending.ReadFault place) text bytes source out x program cause = absurd cause
-exact_told law ending.NoMemory text bytes source out x program cause = absurd cause
+exact_told : (e : Ending) (text bytes : List ℕ) (outside : Outside) (x : Tree) → IsProgramOf bytes outside.source x → CauseOfTelling e text outside.out → IsExact nothing ending.Told e bytes outside
+exact_told ending.Told text bytes outside x program cause = exact_done nothing ending.Told bytes outside (x, program.is) program.whole
+exact_told (ending.WriteFault place) text bytes outside x program cause =
+    exact_failed nothing ending.Told (ending.WriteFault place) bytes outside (x, program.is) program.whole cause.1
+exact_told ending.Finished text bytes outside x program cause = absurd cause
+exact_told ending.Usage text bytes outside x program cause = absurd cause
+exact_told (ending.Refused refusal) text bytes outside x program cause = absurd cause
+exact_told ending.SourceTooLong text bytes outside x program cause = absurd cause
+exact_told (ending.ReadFault place) text bytes outside x program cause = absurd cause
+exact_told ending.NoMemory text bytes outside x program cause = absurd cause
 
-still_exact : RefusalsAreExact → (command : Still) (e : Ending) (bytes : List ℕ) (source : Reading) (out : Writing) → StillCause command e bytes source out → IsExact nothing ending.Told e bytes source out
-still_exact law command e bytes source out (inl before) = exact_before law nothing ending.Told e bytes source out before.0
-still_exact law command e bytes source out (inr told) = exact_told law e (still_text command told.0) bytes source out told.0 told.1 told.2
+still_exact : RefusalsAreExact → (command : Still) (e : Ending) (bytes : List ℕ) (outside : Outside) → StillCause command e bytes outside → IsExact nothing ending.Told e bytes outside
+still_exact law command e bytes outside (inl before) = exact_before law nothing ending.Told e bytes outside before.0
+still_exact law command e bytes outside (inr told) = exact_told e (still_text command told.0) bytes outside told.0 told.1 told.2
 
-pub still_reported : RefusalsAreExact → (command : Still) (source : Reading) (out err : Writing) (ended : Ended) (report : Report) → IsTold command source out ended.closed → ended.history.entries ≡ [] → IsFinished ended err report → IsStillReport command source out err report
-still_reported law command source out err ended report is none finished = record {
+pub still_reported : RefusalsAreExact → (command : Still) (outside : Outside) (ended : Ended) (report : Report) → IsTold command outside.source outside.out ended.closed → ended.history.entries ≡ [] → IsFinished ended outside.err report → IsStillReport command outside report
+still_reported law command outside ended report is none finished = record {
   bytes = is.bytes;
   told = is.told;
-  cause = rw finished.ending_is is.cause;
-  exact = rw finished.ending_is (still_exact law command ended.closed.ending is.bytes source out is.cause);
+  cause = rw finished.ending_is (is.cause outside);
+  exact = rw finished.ending_is (still_exact law command ended.closed.ending is.bytes outside (is.cause outside));
   no_history = ap (λ (h : Record). h.entries) finished.history_is ∙ none;
   status = finished.status;
   errors_written = finished.line is.bytes is.line;

@@ -25,5 +25,5 @@ pub record IsEndOfRun (lines : List Line) (out : Writing) (ended : Ended) : Type
   pub end : State
   pub legal : run (start (program lines)) ended.history.entries ≡ Some end
   pub no_errors : end.errors ≡ []
-  pub cause : (budget : ℕ) → CauseAfter ended.closed.ending budget out ended.history.entries end
+  pub cause : (budget : ℕ) → CauseAfter ended.closed.ending budget out ended.history.entries (start (program lines)) end
   pub few : spent ended.history.entries ≤ 3 * most_lines

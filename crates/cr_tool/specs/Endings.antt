@@ -56,21 +56,16 @@ which_text which.Out = codes "out"
 abbrev pub line : List ℕ → List ℕ
 line text = text ++ 10 ∷ []
 
--- the closing line of an ending that speaks of no place
-abbrev pub fixed : Ending → List ℕ
-fixed ending.Told = []
-fixed ending.Finished = []
-fixed ending.Usage = line (codes "usage: crystal_ec COMMAND FILE [TRACE] [--workers N] [--budget N] [--trace FILE]")
-fixed (ending.Refused refusal) = []
-fixed ending.SourceTooLong = line (codes "source too long")
-fixed (ending.ReadFault place) = line (codes "read fault: " ++ which_text place)
-fixed (ending.WriteFault place) = line (codes "write fault: " ++ which_text place)
-fixed ending.NoMemory = line (codes "out of memory")
-
 abbrev pub refusal_line : List ℕ → Refusal → List ℕ
 refusal_line source refusal = line (place_text source refusal.at ++ code_text refusal.code)
 
--- what is written on the error output at the end of a command
+-- what is written on the error output at the end of a command on this source
 abbrev pub closing : List ℕ → Ending → List ℕ
+closing source ending.Told = []
+closing source ending.Finished = []
+closing source ending.Usage = line (codes "usage: crystal_ec COMMAND FILE [TRACE] [--workers N] [--budget N] [--trace FILE]")
 closing source (ending.Refused refusal) = refusal_line source refusal
-closing source other = fixed other
+closing source ending.SourceTooLong = line (codes "source too long")
+closing source (ending.ReadFault place) = line (codes "read fault: " ++ which_text place)
+closing source (ending.WriteFault place) = line (codes "write fault: " ++ which_text place)
+closing source ending.NoMemory = line (codes "out of memory")

@@ -10,6 +10,7 @@ pub mod Refusals
 pub mod Answer
 pub mod Run
 pub mod Still
+pub mod Tool
 -- What only carries a proof inside.
 pub mod Writing
 pub mod Evaluated

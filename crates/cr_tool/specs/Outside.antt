@@ -1,7 +1,9 @@
--- What a command does to the outside: a source and the sinks, before and after it.
+-- What a command does to the outside: the sources and the sinks that it is lent, before and after it.
 use Rattle.std.specs.Prelude.{◌≡◌, ℕ, ◌≤◌, Bool, true, List, [], length, Option}
 use Rattle.cr_io.specs.Faults.{Rose}
 use Rattle.cr_io.specs.Sink.{Appends, AppendsFront}
+use Rattle.cr_io.specs.declared.sink.Sink.{Ghosts as Sink}
+use Rattle.cr_io.specs.declared.source.Source.{Ghosts as Source}
 use Rattle.cr_syntax.specs.declared.token.TheConstants.{MAX_SOURCE_BYTES}
 
 -- the most bytes of a source
@@ -22,11 +24,19 @@ pub record Writing : Type 0 where
   pub faults : ℕ
   pub faults' : ℕ
 
-abbrev pub reading : {S : Type 0} → (S → Option (List ℕ)) → (S → Bool) → (S → ℕ) → S → S → Reading
-reading left met_end faults old new = record { left = left old; met_end = met_end new; faults = faults old; faults' = faults new }
+-- All that it is lent: the program's source and an old trace, its output and error output, and where a new trace goes.
+pub record Outside : Type 0 where
+  pub source : Reading
+  pub old_trace : Reading
+  pub out : Writing
+  pub err : Writing
+  pub new_trace : Writing
 
-abbrev pub writing : {K : Type 0} → (K → Option (List ℕ)) → (K → ℕ) → K → K → Writing
-writing written faults old new = record { written = written old; written' = written new; faults = faults old; faults' = faults new }
+abbrev pub reading : {S : Type 0} → Source S → S → S → Reading
+reading source old new = record { left = source.left old; met_end = source.met_end new; faults = source.faults old; faults' = source.faults new }
+
+abbrev pub writing : {K : Type 0} → Sink K → K → K → Writing
+writing sink old new = record { written = sink.written old; written' = sink.written new; faults = sink.faults old; faults' = sink.faults new }
 
 -- a read failed
 abbrev pub FailsReading : Reading → Type 0

@@ -1,13 +1,12 @@
 -- The program of a list of sums: its core form.
 use Rattle.std.specs.Prelude.{◌≡◌, ℕ, pos, List, [], ◌∷◌, map, Option, Some, None}
 use Rattle.cr_value.specs.declared.value.Value.TheVariants.{Nil, Small}
-use Rattle.cr_schedule.specs.declared.entry.Entry.{Entry}
 use Rattle.cr_tool.specs.declared.sums.Sum.{Sum}
 use Rattle.cr_tool.specs.declared.sums.Line.{Line}
 use Rattle.cr_tool.specs.declared.sums.Line.TheVariants.{Blank, Puts}
 use Rattle.cr_tool.specs.Sums.{Spells}
 use Rattle.cr_tool.specs.Term.{Term, value, sum, puts, seq}
-use Rattle.cr_tool.specs.State.{State, start, run}
+use Rattle.cr_tool.specs.State.{State, start}
 
 abbrev pub literal : ℕ → Term
 literal n = value (Small (pos n))
@@ -34,8 +33,8 @@ sequence (t ∷ u ∷ us) = seq t (sequence (u ∷ us))
 abbrev pub program : List Line → Term
 program lines = sequence (map statement (sums_of lines))
 
--- The history is legal for the program that the source spells, and leads to this state.
-pub record Follows (source : List ℕ) (history : List Entry) (end : State) : Type 0 where
+-- A run of the program that the source spells begins in this state.
+pub record Begins (source : List ℕ) (begin : State) : Type 0 where
   pub lines : List Line
   pub spelled : Spells source lines
-  pub legal : run (start (program lines)) history ≡ Some end
+  pub at_start : begin ≡ start (program lines)

@@ -8,7 +8,7 @@ use Rattle.cr_tool.specs.declared.words.WordsFault.{WordsFault}
 use Rattle.cr_tool.specs.declared.words.WordsFault.TheVariants as fault
 use Rattle.cr_tool.specs.Sums.{most_lines}
 use Rattle.cr_tool.specs.Endings.{status_of, closing}
-use Rattle.cr_tool.specs.Outside.{Reading, Writing, Writes}
+use Rattle.cr_tool.specs.Outside.{Reading, Writing, Outside, Writes}
 use Rattle.cr_tool.specs.Run.{Cause}
 use Rattle.cr_tool.specs.Opened.{Tells, LineIs}
 
@@ -17,7 +17,7 @@ pub record IsEnded (source : Reading) (out : Writing) (ended : Ended) : Type 0 w
   pub bytes : List ℕ
   pub told : Tells source.left bytes
   pub line : LineIs bytes ended.closed.ending (string_bytes ended.closed.line)
-  pub cause : (budget : ℕ) → 3 * most_lines ≤ budget → Cause ended.closed.ending bytes budget source out ended.history.entries []
+  pub cause : (budget : ℕ) (outside : Outside) → 3 * most_lines ≤ budget → Cause ended.closed.ending bytes budget (record outside { source = source; out = out }) ended.history.entries []
 
 -- The report on it, and the closing line.
 pub record IsFinished (ended : Ended) (err : Writing) (report : Report) : Type 0 where

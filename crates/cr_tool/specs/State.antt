@@ -82,6 +82,13 @@ abbrev pub run : State → List Entry → Option State
 run s [] = Some s
 run s (e ∷ es) = option_and_then (λ mid. run mid es) (step s e)
 
+-- The history without the reduction with which it ends. What that chose goes with it.
+abbrev pub without_last : List Entry → List Entry
+without_last [] = []
+without_last (Steps f (suc (suc n)) clause partner partner_clause ∷ []) = Steps f (suc n) None None None ∷ []
+without_last (e ∷ []) = []
+without_last (e ∷ d ∷ es) = e ∷ without_last (d ∷ es)
+
 pub data RunEnd : Type 0 where
   finished : RunEnd
   raised : RunEnd

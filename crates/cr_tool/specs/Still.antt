@@ -11,7 +11,7 @@ use Rattle.cr_tool.specs.declared.report.Report.{Report}
 use Rattle.cr_tool.specs.declared.words.Still.{Still}
 use Rattle.cr_tool.specs.declared.words.Still.TheVariants.{Format}
 use Rattle.cr_tool.specs.Endings.{status_of, closing}
-use Rattle.cr_tool.specs.Outside.{Reading, Writing, FailsWriting, WritesWell, Writes, IsUntouched, IsWhole}
+use Rattle.cr_tool.specs.Outside.{Reading, Writing, Outside, FailsWriting, WritesWell, Writes, IsUntouched, IsWhole}
 use Rattle.cr_tool.specs.Refusals.{nothing}
 use Rattle.cr_tool.specs.Answer.{CauseBefore, IsExact}
 
@@ -31,17 +31,17 @@ CauseOfTelling (ending.WriteFault place) text out = (place ≡ which.Out) × Fai
 CauseOfTelling other text out = ⊥
 
 -- The cause of each ending of a still command: one before it tells anything, and then nothing is written, or one of its telling.
-abbrev pub StillCause : Still → Ending → List ℕ → Reading → Writing → Type 0
-StillCause command e bytes source out =
-    (CauseBefore nothing e bytes source × IsUntouched out)
-    ⊎ ((x : Tree) × IsProgramOf bytes source x × CauseOfTelling e (still_text command x) out)
+abbrev pub StillCause : Still → Ending → List ℕ → Outside → Type 0
+StillCause command e bytes outside =
+    (CauseBefore nothing e bytes outside.source × IsUntouched outside.out)
+    ⊎ ((x : Tree) × IsProgramOf bytes outside.source x × CauseOfTelling e (still_text command x) outside.out)
 
 -- A report on a still command: the source's bytes, which are those that it tells, and what follows from them. No run began.
-pub record IsStillReport (command : Still) (source : Reading) (out err : Writing) (report : Report) : Type 0 where
+pub record IsStillReport (command : Still) (outside : Outside) (report : Report) : Type 0 where
   pub bytes : List ℕ
-  pub told : IfSome source.left (λ left. bytes ≡ left)
-  pub cause : StillCause command report.ending bytes source out
-  pub exact : IsExact nothing ending.Told report.ending bytes source out
+  pub told : IfSome outside.source.left (λ left. bytes ≡ left)
+  pub cause : StillCause command report.ending bytes outside
+  pub exact : IsExact nothing ending.Told report.ending bytes outside
   pub no_history : report.history.entries ≡ []
   pub status : report.status ≡ status_of report.ending
-  pub errors_written : Writes err (closing bytes report.ending)
+  pub errors_written : Writes outside.err (closing bytes report.ending)

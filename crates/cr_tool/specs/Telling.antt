@@ -6,7 +6,7 @@ use Rattle.cr_source.specs.declared.fault.SourceFault.{SourceFault}
 use Rattle.cr_source.specs.Source.{Answers, IsSource}
 use Rattle.cr_tool.specs.declared.ending.Closed.{Closed}
 use Rattle.cr_tool.specs.declared.words.Still.{Still}
-use Rattle.cr_tool.specs.Outside.{Reading, Writing, IsUntouched}
+use Rattle.cr_tool.specs.Outside.{Reading, Writing, Outside, IsUntouched}
 use Rattle.cr_tool.specs.Refusals.{nothing}
 use Rattle.cr_tool.specs.Still.{still_text, CauseOfTelling, StillCause}
 use Rattle.cr_tool.specs.Opened.{Tells, LineIs, CauseOfRefusal}
@@ -25,5 +25,5 @@ pub record HasTold (command : Still) (bytes : List ℕ) (out : Writing) (closed 
 pub record IsTold (command : Still) (source : Reading) (out : Writing) (closed : Closed) : Type 0 where
   pub bytes : List ℕ
   pub told : Tells source.left bytes
-  pub cause : StillCause command closed.ending bytes source out
+  pub cause : (outside : Outside) → StillCause command closed.ending bytes (record outside { source = source; out = out })
   pub line : LineIs bytes closed.ending (string_bytes closed.line)

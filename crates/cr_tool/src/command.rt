@@ -2,13 +2,8 @@
 ghost use Rattle.std.specs.Prelude.{◌≡◌, List, ℕ};
 ghost use Rattle.cr_tool.specs.Words.{Says};
 ghost use Rattle.cr_tool.specs.declared.words.Words.{Words as Said};
-ghost use Rattle.cr_tool.specs.declared.words.Words.TheVariants as said;
-ghost use Rattle.cr_tool.specs.declared.words.RunWords.{RunWords as RunSaid};
-ghost use Rattle.cr_tool.specs.declared.words.StillWords.{StillWords as StillSaid};
 ghost use Rattle.cr_tool.specs.Outside.{reading, writing};
-ghost use Rattle.cr_tool.specs.Answer.{IsNoCommand};
-ghost use Rattle.cr_tool.specs.Run.{IsReport};
-ghost use Rattle.cr_tool.specs.Still.{IsStillReport};
+ghost use Rattle.cr_tool.specs.Tool.{IsAnswer};
 ghost use Rattle.cr_tool.specs.Reported.{ending_of};
 
 use crate::ending::Ending;
@@ -59,13 +54,14 @@ pub fn tool<
 ) -> Ran<K, E>
     requires out_fits { (sink : K) (text : List ℕ) → K.fits sink text }
     requires err_fits { (sink : E) (text : List ℕ) → E.fits sink text }
-    ensures command { (run : RunSaid) → Says words.now (said.Run run) → IsReport run.budget (reading S.left S.met_end S.faults source.old source.new)
-        (writing K.written K.faults out result.out) (writing E.written E.faults err result.err) result.report }
-    ensures still { (still : StillSaid) → Says words.now (said.Still still) → IsStillReport still.command (reading S.left S.met_end S.faults source.old source.new)
-        (writing K.written K.faults out result.out) (writing E.written E.faults err result.err) result.report }
-    ensures no_command { ((words_said : Said) → Says words.now words_said → ⊥) → IsNoCommand (writing K.written K.faults out result.out)
-        (writing E.written E.faults err result.err) result.report }
-    ensures unread { ((words_said : Said) → Says words.now words_said → ⊥) → source.new ≡ source.old }
+    ensures answer { IsAnswer words.now (record {
+      source = reading S.Source source.old source.new;
+      old_trace = reading T.Source old_trace.old old_trace.new;
+      out = writing K.Sink out result.out;
+      err = writing E.Sink err result.err;
+      new_trace = writing R.Sink new_trace.old new_trace.new;
+    }) result.report }
+    ensures unread { ((said : Said) → Says words.now said → ⊥) → source.new ≡ source.old }
     ensures old_trace { old_trace.new ≡ old_trace.old }
     ensures new_trace { new_trace.new ≡ new_trace.old }
 {

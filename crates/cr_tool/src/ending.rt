@@ -1,8 +1,8 @@
 // What an ending is, with its status and its closing line.
 ghost use Rattle.std.specs.Prelude.{◌≡◌, ◌<◌, ◌≤◌, ◌^◌, [], length, take, IfOk};
 ghost use Rattle.std.specs.String.{string_bytes};
-ghost use Rattle.cr_tool.specs.Endings.{status_of, place_after, place_of, place_text, source_text, code_text, fixed, refusal_line};
-ghost use Rattle.cr_tool.specs.Closed.{text_of};
+ghost use Rattle.cr_tool.specs.Endings.{status_of, place_after, place_of, place_text, source_text, code_text, refusal_line};
+ghost use Rattle.cr_tool.specs.Closed.{fixed, text_of};
 
 use cr_source::Code as SourceCode;
 use std::alloc::{AllocError, Global};

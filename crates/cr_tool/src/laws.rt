@@ -31,8 +31,8 @@ pub fn program_or_refusal()
     ensures never_both { (source : List ℕ) (lines : List Line) (place : ℕ) → Spells source lines → IsUnbuilt source place → ⊥ }
 {}
 
-/// Whatever a command asks, it does not refuse what it takes, and refuses what has a fault of tokens for that, and a program for what it
-/// lacks.
+/// Whatever a command asks, each source that the front answers, unless with want of memory, is taken or refused, and not both; what has a
+/// fault of tokens is refused for that, and a program for what it lacks.
 pub fn refusals_are_exact()
     ensures { RefusalsAreExact }
 {

@@ -17,7 +17,7 @@ use std::alloc::Global;
 
 /// The bytes of a source.
 pub fn read_source<S: Source>(alloc: Global, source: &mut S) -> Result<Vec<u8>, Closed>
-    ensures { IsRead (reading S.left S.met_end S.faults source.old source.new) result }
+    ensures { IsRead (reading S.Source source.old source.new) result }
 {
     match read_all(alloc, source, MAX_SOURCE_BYTES) {
         Ok(bytes) => Ok(bytes),
@@ -86,7 +86,7 @@ fn refuse_front(alloc: Global, source: &[u8], place: u32) -> Closed
 
 /// Reads the lines of a source.
 pub fn open<S: Source>(alloc: Global, source: &mut S) -> Result<Vec<Line>, Closed>
-    ensures { IsOpened (reading S.left S.met_end S.faults source.old source.new) result }
+    ensures { IsOpened (reading S.Source source.old source.new) result }
 {
     let bytes = read_source(alloc, source)?;
     match read_lines(alloc, &bytes) {

@@ -50,7 +50,7 @@ pub struct Ran<K, E> {
 /// Writes the closing line, and makes the report. A fault while it is written changes nothing.
 pub fn make_report<E: Sink>(err: &mut E, ended: Ended) -> Report
     requires fits { (sink : E) (text : List ℕ) → E.fits sink text }
-    ensures { IsFinished ended (writing E.written E.faults err.old err.new) result }
+    ensures { IsFinished ended (writing E.Sink err.old err.new) result }
 {
     let Ended { closed, history } = ended;
     let _ = put_all(err, closed.text().as_bytes());

@@ -5,7 +5,7 @@ ghost use Rattle.cr_tool.specs.declared.words.Words.TheVariants as said;
 ghost use Rattle.cr_tool.specs.Sums.{HasForm, most_lines};
 ghost use Rattle.cr_tool.specs.Words.{Says};
 ghost use Rattle.cr_tool.specs.Writing.{history_of};
-ghost use Rattle.cr_tool.specs.Outside.{reading, writing};
+ghost use Rattle.cr_tool.specs.Outside.{Reading, reading, writing};
 ghost use Rattle.cr_tool.specs.Run.{IsReport};
 ghost use Rattle.cr_tool.specs.Ended.{ending_of, IsEndOfRun};
 ghost use Rattle.cr_tool.specs.Reported.{IsEnded};
@@ -58,7 +58,7 @@ pub fn run_lines<K: Sink>(alloc: Global, lines: &[Line], out: &mut K) -> Ended
     requires form { AllByRecursion HasForm lines.now }
     requires few { length lines.now ≤ most_lines }
     requires fits { (sink : K) (text : List ℕ) → K.fits sink text }
-    ensures { IsEndOfRun lines.now (writing K.written K.faults out.old out.new) result }
+    ensures { IsEndOfRun lines.now (writing K.Sink out.old out.new) result }
 {
     let mut history = History::new(alloc);
     if history.reserve(1).is_err() {
@@ -72,7 +72,7 @@ pub fn run_lines<K: Sink>(alloc: Global, lines: &[Line], out: &mut K) -> Ended
 /// Reads a source and runs its program.
 fn read_and_run<S: Source, K: Sink>(alloc: Global, source: &mut S, out: &mut K) -> Ended
     requires fits { (sink : K) (text : List ℕ) → K.fits sink text }
-    ensures { IsEnded (reading S.left S.met_end S.faults source.old source.new) (writing K.written K.faults out.old out.new) result }
+    ensures { IsEnded (reading S.Source source.old source.new) (writing K.Sink out.old out.new) result }
 {
     match open(alloc, source) {
         Ok(lines) => run_lines(alloc, &lines, out),
@@ -105,8 +105,13 @@ pub fn run_command<
     requires words { (line : List (List ℕ)) × Says line (said.Run words.now) }
     requires out_fits { (sink : K) (text : List ℕ) → K.fits sink text }
     requires err_fits { (sink : E) (text : List ℕ) → E.fits sink text }
-    ensures report { IsReport words.now.budget (reading S.left S.met_end S.faults source.old source.new)
-        (writing K.written K.faults out result.out) (writing E.written E.faults err result.err) result.report }
+    ensures report { (old_trace : Reading) → IsReport words.now.budget (record {
+      source = reading S.Source source.old source.new;
+      old_trace = old_trace;
+      out = writing K.Sink out result.out;
+      err = writing E.Sink err result.err;
+      new_trace = writing R.Sink new_trace.old new_trace.new;
+    }) result.report }
     ensures trace { new_trace.new ≡ new_trace.old }
 {
     refusals_are_exact();

@@ -1,7 +1,7 @@
 // The still commands, which run nothing: a source is read, and what the command tells of its program is written.
 ghost use Rattle.std.specs.Prelude.{◌≡◌, ◌≤◌, List, ℕ, length, IfOk};
 ghost use Rattle.cr_source.specs.Source.{Answers};
-ghost use Rattle.cr_tool.specs.Outside.{reading, writing, source_limit};
+ghost use Rattle.cr_tool.specs.Outside.{Writing, reading, writing, source_limit};
 ghost use Rattle.cr_tool.specs.Still.{still_text, CauseOfTelling, IsStillReport};
 ghost use Rattle.cr_tool.specs.Telling.{TellsOf, HasTold, IsTold};
 
@@ -58,7 +58,7 @@ fn told(alloc: Global, command: Still, source: &[u8]) -> Result<Vec<u8>, SourceF
 /// Writes what is told.
 fn put<K: Sink>(out: &mut K, text: &[u8]) -> Ending
     requires fits { (sink : K) (text : List ℕ) → K.fits sink text }
-    ensures { CauseOfTelling result text.now (writing K.written K.faults out.old out.new) }
+    ensures { CauseOfTelling result text.now (writing K.Sink out.old out.new) }
 {
     match put_all(out, text) {
         Ok(()) => Ending::Told,
@@ -70,7 +70,7 @@ fn put<K: Sink>(out: &mut K, text: &[u8]) -> Ending
 fn tell_source<K: Sink>(alloc: Global, command: Still, source: &[u8], out: &mut K) -> Closed
     requires short { length source.now ≤ source_limit }
     requires fits { (sink : K) (text : List ℕ) → K.fits sink text }
-    ensures { HasTold command source.now (writing K.written K.faults out.old out.new) result }
+    ensures { HasTold command source.now (writing K.Sink out.old out.new) result }
 {
     match told(alloc, command, source) {
         Ok(text) => Closed::new(alloc, put(out, &text)),
@@ -81,7 +81,7 @@ fn tell_source<K: Sink>(alloc: Global, command: Still, source: &[u8], out: &mut 
 /// Reads a source, and writes what the command tells of its program.
 fn tell<S: Source, K: Sink>(alloc: Global, command: Still, source: &mut S, out: &mut K) -> Closed
     requires fits { (sink : K) (text : List ℕ) → K.fits sink text }
-    ensures { IsTold command (reading S.left S.met_end S.faults source.old source.new) (writing K.written K.faults out.old out.new) result }
+    ensures { IsTold command (reading S.Source source.old source.new) (writing K.Sink out.old out.new) result }
 {
     match read_source(alloc, source) {
         Ok(bytes) => tell_source(alloc, command, &bytes, out),
@@ -100,8 +100,13 @@ pub fn still_command<S: Source, T: Source, K: Sink, E: Sink>(
 ) -> Report
     requires out_fits { (sink : K) (text : List ℕ) → K.fits sink text }
     requires err_fits { (sink : E) (text : List ℕ) → E.fits sink text }
-    ensures report { IsStillReport words.now.command (reading S.left S.met_end S.faults source.old source.new)
-        (writing K.written K.faults out.old out.new) (writing E.written E.faults err.old err.new) result }
+    ensures report { (new_trace : Writing) → IsStillReport words.now.command (record {
+      source = reading S.Source source.old source.new;
+      old_trace = reading T.Source old_trace.old old_trace.new;
+      out = writing K.Sink out.old out.new;
+      err = writing E.Sink err.old err.new;
+      new_trace = new_trace;
+    }) result }
     ensures old_trace { old_trace.new ≡ old_trace.old }
 {
     refusals_are_exact();

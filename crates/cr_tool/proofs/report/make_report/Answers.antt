@@ -5,8 +5,7 @@ use Rattle.cr_tool.proofs.report.make_report.Goals as goal
 
 pub returns : goal.returns
 returns g c =
-    let k = g.E.Sink in
-    let err = writing k.written k.faults c.args.err.now c.put_all.new.sink in
+    let err = writing g.E.Sink c.args.err.now c.put_all.new.sink in
     record {
       ending_is = refl;
       history_is = refl;

@@ -16,5 +16,4 @@ record-requires-clause-whole g c = turns_of_evaluated _ _ _ c.evaluate-evaluated
 
 pub returns : goal.returns
 returns g c =
-    let k = g.K.Sink in
-    end_of_run c.args.lines.now (writing k.written k.faults c.args.out.now c.evaluate-evaluated.new.out) c.evaluate-evaluated.result c.new-2.result c.requires.form c.evaluate-evaluated.ensures.written c.evaluate-evaluated.ensures.fault c.evaluate-evaluated.ensures.steady c.evaluate-evaluated.ensures.bound (c.new-2.ensures.ending ∙ c.ending_of.ensures) (ap (λ (h : Record). h.entries) c.new-2.ensures.history ∙ c.record.ensures ∙ ap (λ (es : List Entry). es ++ history_of c.evaluate-evaluated.result.turns) (c.reserve.ensures.entries ∙ c.new-history.ensures))
+    end_of_run c.args.lines.now (writing g.K.Sink c.args.out.now c.evaluate-evaluated.new.out) c.evaluate-evaluated.result c.new-2.result c.requires.form c.evaluate-evaluated.ensures.written c.evaluate-evaluated.ensures.fault c.evaluate-evaluated.ensures.steady c.evaluate-evaluated.ensures.bound (c.new-2.ensures.ending ∙ c.ending_of.ensures) (ap (λ (h : Record). h.entries) c.new-2.ensures.history ∙ c.record.ensures ∙ ap (λ (es : List Entry). es ++ history_of c.evaluate-evaluated.result.turns) (c.reserve.ensures.entries ∙ c.new-history.ensures))
