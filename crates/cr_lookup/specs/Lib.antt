@@ -1,0 +1,4 @@
+-- What public clauses cite.
+pub mod Methods
+pub mod Choice
+pub mod Places
