@@ -1,0 +1,15 @@
+pub mod Grows
+pub mod Fresh
+pub mod Told
+pub mod Good
+pub mod Inside
+pub mod Goods
+pub mod More
+pub mod Every
+pub mod Begin
+pub mod Known
+pub mod Marked
+pub mod Backing
+pub mod Lowered
+pub mod Borne
+pub mod Once
