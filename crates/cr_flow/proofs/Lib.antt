@@ -7,3 +7,7 @@ pub mod Body
 pub mod Law
 pub mod Flags
 pub mod Forest
+pub mod Untouched
+pub mod Below
+pub mod Stepping
+pub mod Told

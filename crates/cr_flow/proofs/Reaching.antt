@@ -16,11 +16,11 @@ use Rattle.cr_flow.specs.Chain.{statement_of, condition_of, trail_of, trail_in, 
 use Rattle.std.proofs.lemmas.Bool.Decides.{nat_tests}
 use Rattle.cr_flow.specs.Outs.{lower, least, none, join, also, goes_on, jumps, either, here, decided, led, leads_on, finished, chain, acted, tested, at_node, own_outs, clause_outs, clauses_outs, arms_outs, inner, caught_by, caught, outs_in, outs_to, reach}
 
-map_same : (g k : NodeId → Outs) (ps : List NodeId) → ((i : ℕ) (c : NodeId) → slice_get ps i ≡ Some c → g c ≡ k c) → map g ps ≡ map k ps
+pub map_same : (g k : NodeId → Outs) (ps : List NodeId) → ((i : ℕ) (c : NodeId) → slice_get ps i ≡ Some c → g c ≡ k c) → map g ps ≡ map k ps
 map_same g k [] h = refl
 map_same g k (p ∷ ps) h = let a = h 0 p refl in let b = map_same g k ps (λ i c e. h (suc i) c e) in cc
 
-clauses_same : (g k : NodeId → Outs) (rows : List Row) (all : Outs) (cs : List NodeId) → ((i : ℕ) (c : NodeId) → slice_get cs i ≡ Some c → clause_outs g (slice_get rows c.0) ≡ clause_outs k (slice_get rows c.0)) → clauses_outs g rows all cs ≡ clauses_outs k rows all cs
+pub clauses_same : (g k : NodeId → Outs) (rows : List Row) (all : Outs) (cs : List NodeId) → ((i : ℕ) (c : NodeId) → slice_get cs i ≡ Some c → clause_outs g (slice_get rows c.0) ≡ clause_outs k (slice_get rows c.0)) → clauses_outs g rows all cs ≡ clauses_outs k rows all cs
 clauses_same g k rows all [] h = refl
 clauses_same g k rows all (c ∷ cs) h =
     ap (λ (o : Outs). clauses_outs g rows (join all o) cs) (h 0 c refl) ∙ clauses_same g k rows (join all (clause_outs k (slice_get rows c.0))) cs (λ i d e. h (suc i) d e)

@@ -8,10 +8,14 @@ mod control;
 mod outs;
 mod rank;
 mod reach;
+mod several;
+mod steps;
+mod under;
 mod variable;
 
 pub use assigned::{Unassigned, assigned_at_end, assigned_before, unassigned_uses};
 pub use capture::captured;
+pub use several::unassigned_in;
 pub use variable::Variable;
 
 #[cfg(test)]

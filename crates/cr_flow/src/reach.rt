@@ -40,7 +40,7 @@ fn acted(rank: Option<u32>, x: Variable, form: Form, arms: Outs) -> Outs
 }
 
 /// What the outcome of a condition leads to at once: its jumps, and the act of its row.
-fn decided(rank: Option<u32>, test: Outs) -> Outs
+pub(crate) fn decided(rank: Option<u32>, test: Outs) -> Outs
     ensures { result ≡ outs.decided rank test }
 {
     if test.goes_on() {
