@@ -70,22 +70,24 @@ called_kept P s i fiber name written receiver vs given built_in h =
     goes_on_kept P s i fiber receiver vs given built_in
     (P.choose (calls.class_of_receiver P s receiver) name (map (calls.class_of P s) vs) (calls.is_given given) (not written)) h
 
-further_kept : (P : World) (s : State) (i : ℕ) (fiber : Fiber) (vs : List Value) (built_in : Method_of → Act) (further : Further)
-    → ((o : Method_of) → Keeps s.cells (built_in o)) → Keeps s.cells (calls.goes_further P s i fiber vs built_in further)
-further_kept P s i fiber [] built_in nothing h = unchanged s.cells
-further_kept P s i fiber (v ∷ vs) built_in nothing h = tt
-further_kept P s i fiber [] built_in no_match h = tt
-further_kept P s i fiber (v ∷ vs) built_in no_match h = tt
-further_kept P s i fiber [] built_in (goes_to target) h = goes_on_kept P s i fiber (calls.receiver_here fiber) [] None built_in (Some target) h
-further_kept P s i fiber (v ∷ vs) built_in (goes_to target) h = goes_on_kept P s i fiber (calls.receiver_here fiber) (v ∷ vs) None built_in (Some target) h
+nowhere_kept : (s : State) (initialize : Bool) (vs : List Value) → Keeps s.cells (calls.goes_nowhere s initialize vs)
+nowhere_kept s true [] = unchanged s.cells
+nowhere_kept s true (v ∷ vs) = tt
+nowhere_kept s false vs = tt
+
+further_kept : (P : World) (s : State) (i : ℕ) (fiber : Fiber) (initialize : Bool) (vs : List Value) (built_in : Method_of → Act) (further : Further)
+    → ((o : Method_of) → Keeps s.cells (built_in o)) → Keeps s.cells (calls.goes_further P s i fiber initialize vs built_in further)
+further_kept P s i fiber initialize vs built_in nothing h = nowhere_kept s initialize vs
+further_kept P s i fiber initialize vs built_in no_match h = tt
+further_kept P s i fiber initialize vs built_in (goes_to target) h = goes_on_kept P s i fiber (calls.receiver_here fiber) vs None built_in (Some target) h
 
 pub super_kept : (P : World) (s : State) (i : ℕ) (fiber : Fiber) (vs : List Value) (built_in : Method_of → Act)
     → ((o : Method_of) → Keeps s.cells (built_in o)) → Keeps s.cells (calls.calls_super P s i fiber vs built_in)
 super_kept P s i fiber vs built_in h =
     or_stuck_kept s.cells
-    (λ m. calls.goes_further P s i fiber vs built_in (P.choose_super (calls.class_of_receiver P s (calls.receiver_here fiber)) m (map (calls.class_of P s) vs)))
+    (λ m. calls.goes_further P s i fiber (P.is_initialize m) vs built_in (P.choose_super (calls.class_of_receiver P s (calls.receiver_here fiber)) m (map (calls.class_of P s) vs)))
     (calls.method_in (calls.locals_here fiber))
-    (λ m e. further_kept P s i fiber vs built_in (P.choose_super (calls.class_of_receiver P s (calls.receiver_here fiber)) m (map (calls.class_of P s) vs)) h)
+    (λ m e. further_kept P s i fiber (P.is_initialize m) vs built_in (P.choose_super (calls.class_of_receiver P s (calls.receiver_here fiber)) m (map (calls.class_of P s) vs)) h)
 
 -- ---- objects
 

@@ -4,3 +4,5 @@ mod Sending
 mod Reducing
 mod Runs
 mod Choices
+mod Partners
+mod Passing

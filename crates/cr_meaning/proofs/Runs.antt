@@ -195,9 +195,24 @@ histories_go_on P first more s e = from_goes_on P first more (run.start P) ∙ a
 raised_is_no_end : Raised ≡ Done → ⊥
 raised_is_no_end e = cc
 
+-- what is done is not still going
+done_and_not : {A : Type 0} (s : State) (status : Status) → run.status_at s 0 ≡ status → run.is_done status ≡ true → run.is_done (run.status_at s 0) ≡ false → A
+done_and_not s status e done going = absurd (both_ways (run.is_done (run.status_at s 0)) going (ap run.is_done e ∙ done))
+
 pub one_ending : OneEnding
-one_ending = record {
-  not_both_done = λ s finished raised. raised_is_no_end (sym raised ∙ finished);
-  no_deadlock_finished = λ P s finished deadlock. both_ways (run.is_done (run.status_at s 0)) deadlock.0 (ap run.is_done finished);
-  no_deadlock_raised = λ P s raised deadlock. both_ways (run.is_done (run.status_at s 0)) deadlock.0 (ap run.is_done raised);
-}
+one_ending P budget entries s run.finished run.finished a b = refl
+one_ending P budget entries s run.finished run.raised a b = absurd (raised_is_no_end (sym b ∙ a))
+one_ending P budget entries s run.finished run.budget_spent a b = done_and_not s Done a refl b.0
+one_ending P budget entries s run.finished run.deadlock a b = done_and_not s Done a refl b.0.0
+one_ending P budget entries s run.raised run.finished a b = absurd (raised_is_no_end (sym a ∙ b))
+one_ending P budget entries s run.raised run.raised a b = refl
+one_ending P budget entries s run.raised run.budget_spent a b = done_and_not s Raised a refl b.0
+one_ending P budget entries s run.raised run.deadlock a b = done_and_not s Raised a refl b.0.0
+one_ending P budget entries s run.budget_spent run.finished a b = done_and_not s Done b refl a.0
+one_ending P budget entries s run.budget_spent run.raised a b = done_and_not s Raised b refl a.0
+one_ending P budget entries s run.budget_spent run.budget_spent a b = refl
+one_ending P budget entries s run.budget_spent run.deadlock a b = absurd (b.1 a.1)
+one_ending P budget entries s run.deadlock run.finished a b = done_and_not s Done b refl a.0.0
+one_ending P budget entries s run.deadlock run.raised a b = done_and_not s Raised b refl a.0.0
+one_ending P budget entries s run.deadlock run.budget_spent a b = absurd (a.1 b.1)
+one_ending P budget entries s run.deadlock run.deadlock a b = refl

@@ -97,16 +97,21 @@ abbrev pub method_in : Option Locals → Option MethodId
 method_in None = None
 method_in (Some l) = l.method
 
--- Where no further `initialize` is there, and no argument, it gives nil.
-abbrev pub goes_further : World → State → ℕ → Fiber → List Value → (Operation → Act) → Further → Act
-goes_further P s i fiber [] built_in nothing = gives s Nil
-goes_further P s i fiber (v ∷ vs) built_in nothing = Stuck
-goes_further P s i fiber vs built_in no_match = Stuck
-goes_further P s i fiber vs built_in (goes_to target) = goes_on P s i fiber (receiver_here fiber) vs None built_in (Some target)
+-- In an `initialize` with no further one it gives nil, and takes no argument. For any other method there is no method then.
+abbrev pub goes_nowhere : State → (initialize : Bool) → List Value → Act
+goes_nowhere s true [] = gives s Nil
+goes_nowhere s true (v ∷ vs) = Stuck
+goes_nowhere s false vs = Stuck
+
+abbrev pub goes_further : World → State → ℕ → Fiber → (initialize : Bool) → List Value → (Operation → Act) → Further → Act
+goes_further P s i fiber initialize vs built_in nothing = goes_nowhere s initialize vs
+goes_further P s i fiber initialize vs built_in no_match = Stuck
+goes_further P s i fiber initialize vs built_in (goes_to target) = goes_on P s i fiber (receiver_here fiber) vs None built_in (Some target)
 
 abbrev pub calls_super : World → State → ℕ → Fiber → List Value → (Operation → Act) → Act
 calls_super P s i fiber vs built_in =
-    or_stuck (λ m. goes_further P s i fiber vs built_in (P.choose_super (class_of_receiver P s (receiver_here fiber)) m (map (class_of P s) vs)))
+    or_stuck
+    (λ m. goes_further P s i fiber (P.is_initialize m) vs built_in (P.choose_super (class_of_receiver P s (receiver_here fiber)) m (map (class_of P s) vs)))
     (method_in (locals_here fiber))
 
 -- ---- objects

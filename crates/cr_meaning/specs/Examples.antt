@@ -1,15 +1,13 @@
 -- What runs of small programs come to.
-use Rattle.std.specs.Prelude.{◌≡◌, ℕ, List, [], ◌∷◌, codes, pos, false, Option, Some, None}
+use Rattle.std.specs.Prelude.{◌≡◌, ℕ, List, [], ◌∷◌, ◌++◌, codes, true, Option, Some, None, is_some}
 use Rattle.cr_base.specs.declared.ids.FiberId.{FiberId}
 use Rattle.cr_schedule.specs.declared.entry.Entry.{Entry}
 use Rattle.cr_schedule.specs.declared.entry.Entry.TheVariants.{Steps, Wait, Resume}
 use Rattle.cr_meaning.specs.World.{World}
-use Rattle.cr_meaning.specs.State.{State, Status, Current, Done}
-use Rattle.cr_meaning.specs.Run.{run, status_at}
+use Rattle.cr_meaning.specs.State.{State, Status, Done}
+use Rattle.cr_meaning.specs.Run.{run, status_at, IsFirstIllegal}
 use Rattle.cr_schedule.specs.Entry.{spent}
-use Rattle.cr_core.specs.Core.{◌⊕◌}
-use Rattle.cr_core.specs.declared.form.Form.TheVariants as f
-use Rattle.cr_meaning.specs.Programs.{meeting_world, counting_world, alone, of_a_call, times, looping, and_then, of, leaf, slot, x, set_x}
+use Rattle.cr_meaning.specs.Programs.{sum_world, meeting_world, counting_world}
 
 abbrev pub fiber : ℕ → FiberId
 fiber i = record { 0 = i }
@@ -33,21 +31,38 @@ seen (Some s) = Some (seen_of s)
 abbrev pub wrote : List ℕ → Status → Option Seen
 wrote output main = Some (record { output = output; errors = []; main = main })
 
--- up to the receiver's choice
-abbrev pub until_choice : List Entry
-until_choice = plain 0 6 ∷ Resume (fiber 1) ∷ plain 1 1 ∷ Wait (fiber 1) ∷ Resume (fiber 0) ∷ []
+-- the history is legal, and some entry behind it too, so that main is not done
+abbrev pub EndsEarly : World → List Entry → Type 0
+EndsEarly P entries = (e : Entry) × (is_some (run P (entries ++ e ∷ [])) ≡ true)
+
+-- ---- puts 1 + 2
+
+pub record ASum : Type 0 where
+  pub whole : seen (run sum_world (plain 0 2 ∷ [])) ≡ wrote (codes "3\n") Done
+  pub too_long : IsFirstIllegal sum_world (plain 0 3 ∷ []) 0
+  pub waits_for_nothing : IsFirstIllegal sum_world (plain 0 1 ∷ Wait (fiber 0) ∷ []) 1
+  pub nothing : EndsEarly sum_world []
+
+-- ---- a choice that meets another
+
+-- up to the sender's choice, and up to the receiver's
+abbrev pub sender_chooses : List Entry
+sender_chooses = plain 0 6 ∷ Resume (fiber 1) ∷ plain 1 1 ∷ []
+
+abbrev pub receiver_chooses : List Entry
+receiver_chooses = sender_chooses ++ Wait (fiber 1) ∷ Resume (fiber 0) ∷ []
 
 abbrev pub met : List Entry
-met = plain 0 6 ∷ Resume (fiber 1) ∷ plain 1 1 ∷ Wait (fiber 1) ∷ Resume (fiber 0) ∷ Steps (fiber 0) 3 (Some 0) (Some (fiber 1)) (Some 0) ∷ plain 0 4 ∷ []
+met = receiver_chooses ++ Steps (fiber 0) 3 (Some 0) (Some (fiber 1)) (Some 0) ∷ plain 0 4 ∷ []
 
 -- its `else` is no choice then
 abbrev pub otherwise : List Entry
-otherwise = plain 0 6 ∷ Resume (fiber 1) ∷ plain 1 1 ∷ Wait (fiber 1) ∷ Resume (fiber 0) ∷ Steps (fiber 0) 3 (Some 1) None None ∷ []
+otherwise = receiver_chooses ++ Steps (fiber 0) 3 (Some 1) None None ∷ plain 0 4 ∷ []
 
 pub record AMeeting : Type 0 where
-  pub goes : seen (run meeting_world until_choice) ≡ wrote [] Current
   pub met : seen (run meeting_world met) ≡ wrote (codes "1\n") Done
-  pub otherwise : run meeting_world otherwise ≡ None
+  pub otherwise : IsFirstIllegal meeting_world otherwise 5
+  pub early : EndsEarly meeting_world sender_chooses
 
 -- ---- two fibers that count
 
@@ -72,39 +87,5 @@ pub record TwoCounters : Type 0 where
   pub at_once : seen (run counting_world both_at_once) ≡ wrote (codes "1\n") Done
   pub spent_behind : spent one_behind_other ≡ 49
   pub spent_at_once : spent both_at_once ≡ 49
-  pub nobody : run counting_world nobody ≡ None
-  pub goes : seen (run counting_world counted) ≡ wrote [] Current
-
--- ---- what a form takes
-
-abbrev pub main_in : Option State → Option Status
-main_in None = None
-main_in (Some s) = Some (status_at s 0)
-
--- The program is done by so many reductions, neither earlier nor later.
-abbrev pub Takes : World → ℕ → Type 0
-Takes P n = main_in (run P (plain 0 n ∷ [])) ≡ Some Done
-
-pub record Counts : Type 0 where
-  -- nothing at all, where the statements are a value
-  pub value : main_in (run (alone [] (leaf (f.Int32 (pos 1)))) []) ≡ Some Done
-  -- x = 1; x: the assignment, the sequence, the local
-  pub assignment : Takes (alone (slot 0 false ∷ []) (and_then (set_x (leaf (f.Int32 (pos 1)))) (leaf x))) 3
-  -- true ? 1 : 2
-  pub condition : Takes (alone [] (of f.If (leaf f.True ⊕ (leaf (f.Int32 (pos 1)) ⊕ leaf (f.Int32 (pos 2)))))) 1
-  -- nil && 1, nil || 1, !nil
-  pub both : Takes (alone [] (of f.And (leaf f.Nil ⊕ leaf (f.Int32 (pos 1))))) 1
-  pub either : Takes (alone [] (of f.Or (leaf f.Nil ⊕ leaf (f.Int32 (pos 1))))) 1
-  pub negation : Takes (alone [] (of f.Not (leaf f.Nil))) 1
-  -- while false; nil; end: to enter, the condition's outcome, to leave
-  pub no_turn : Takes (alone [] (looping (leaf f.False) (leaf f.Nil))) 3
-  -- while true; break; end
-  pub broken : Takes (alone [] (looping (leaf f.True) (leaf f.Break))) 3
-  -- x = true; while x; x = nil; end: a full turn takes the local, the outcome, the body, the sequence and the fresh turn
-  pub one_turn : Takes (alone (slot 0 false ∷ []) (and_then (set_x (leaf f.True)) (looping (leaf x) (set_x (leaf f.Nil))))) 11
-  -- a call of a method: to enter and for its end, or its `return`
-  pub called : Takes (of_a_call (leaf f.Nil)) 2
-  pub returned : Takes (of_a_call (of f.Return (leaf f.Nil))) 2
-  -- n.times do |i| end: 11, and 13 a turn
-  pub not_once : Takes (times 0) 11
-  pub twice : Takes (times 2) 37
+  pub nobody : IsFirstIllegal counting_world nobody 2
+  pub early : EndsEarly counting_world counted

@@ -12,7 +12,7 @@ use Rattle.cr_meaning.specs.Redex.{redex}
 use Rattle.cr_meaning.specs.Act.{Choice}
 use Rattle.cr_meaning.specs.Reduce.{reduce}
 use Rattle.cr_meaning.specs.Channels.{channel_in, channel_at, Clause, clauses, is_ready}
-use Rattle.cr_meaning.specs.Run.{new_state, run, run_from, after, is_done, status_at, IsFinished, IsRaised, IsDeadlock}
+use Rattle.cr_meaning.specs.Run.{new_state, run, run_from, after, is_done, status_at, Ending, Ends}
 
 -- What a channel was and is: a channel that was there is what operations make of it, and a new one what they make of a channel without
 -- items. None goes away.
@@ -44,11 +44,9 @@ ChannelsAreLawful = (P : World) (entries : List Entry) (s : State) (k : ℕ) (c 
 abbrev pub NothingAfterTheEnd : Type 0
 NothingAfterTheEnd = (P : World) (s : State) (e : Entry) → is_done (status_at s 0) ≡ true → after P e s ≡ None
 
--- Of three endings one holds at most.
-pub record OneEnding : Type 0 where
-  pub not_both_done : (s : State) → IsFinished s → IsRaised s → ⊥
-  pub no_deadlock_finished : (P : World) (s : State) → IsFinished s → IsDeadlock P s → ⊥
-  pub no_deadlock_raised : (P : World) (s : State) → IsRaised s → IsDeadlock P s → ⊥
+-- Of the endings one holds at most.
+abbrev pub OneEnding : Type 0
+OneEnding = (P : World) (budget : Option ℕ) (entries : List Entry) (s : State) (a b : Ending) → Ends P budget entries s a → Ends P budget entries s b → a ≡ b
 
 -- A history that goes on is run from where its beginning led.
 abbrev pub HistoriesGoOn : Type 0

@@ -13,6 +13,9 @@ pub mod Builtins
 pub mod Reduce
 pub mod Run
 pub mod Histories
+pub mod Meetings
 -- Examples.
 pub mod Programs
 pub mod Examples
+pub mod Counted
+pub mod Counts

@@ -1,5 +1,5 @@
--- Two small programs as the meaning sees them: a choice that meets another, and two fibers that count.
-use Rattle.std.specs.Prelude.{ℕ, pos, ◌+◌, ◌==◌, Bool, true, false, if◌then◌else◌, List, [], ◌∷◌, codes, Option, Some, None}
+-- Programs as the meaning sees them: a sum, a choice that meets another, two fibers that count.
+use Rattle.std.specs.Prelude.{ℕ, pos, ◌==◌, Bool, true, false, if◌then◌else◌, List, [], ◌∷◌, codes, Option, Some, None}
 use Rattle.cr_base.specs.declared.ids.ClassId.{ClassId}
 use Rattle.cr_base.specs.declared.ids.MethodId.{MethodId}
 use Rattle.cr_base.specs.declared.ids.NameId.{NameId}
@@ -10,9 +10,8 @@ use Rattle.cr_builtins.specs.declared.operation.Operation.TheVariants as operati
 use Rattle.cr_builtins.specs.declared.operation.ScalarOperation.TheVariants as scalar
 use Rattle.cr_builtins.specs.declared.operation.NumberOperation.TheVariants as number
 use Rattle.cr_builtins.specs.declared.operation.Reckoning.TheVariants as reckoning
-use Rattle.cr_builtins.specs.declared.operation.Comparison.TheVariants as comparison
 use Rattle.cr_builtins.specs.declared.operation.ChannelOperation.TheVariants as channel
-use Rattle.cr_core.specs.Core.{Core, none, one, ◌⊕◌, size}
+use Rattle.cr_core.specs.Core.{Core, none, one, ◌⊕◌}
 use Rattle.cr_core.specs.Arena.{rows}
 use Rattle.cr_core.specs.declared.form.Form.{Form}
 use Rattle.cr_core.specs.declared.form.Form.TheVariants as f
@@ -22,7 +21,7 @@ use Rattle.cr_core.specs.declared.form.TextId.{TextId}
 use Rattle.cr_core.specs.declared.row.Place.{Place}
 use Rattle.cr_core.specs.declared.scope.Scope.{Scope}
 use Rattle.cr_core.specs.declared.scope.ScopeKind.{ScopeKind}
-use Rattle.cr_core.specs.declared.scope.ScopeKind.TheVariants.{Main, Method as OfMethod, Block as InBlock, Spawn}
+use Rattle.cr_core.specs.declared.scope.ScopeKind.TheVariants.{Main, Method as OfMethod, Spawn}
 use Rattle.cr_core.specs.declared.scope.Slot.{Slot}
 use Rattle.cr_meaning.specs.World.{World, Target, Method, Builtin, Further, nothing, goes_to, Made, Object, Channel, Parallel}
 
@@ -97,9 +96,25 @@ world_of scopes texts core choose initialize makes def_of = record {
   choose_initialize = λ c arguments. initialize c;
   def_of = def_of;
   is_top = λ m. false;
+  is_initialize = λ m. false;
   makes = makes;
   covers = λ atoms c. false;
 }
+
+-- the same, where the method of this number is an `initialize`
+abbrev pub initializing : ℕ → World → World
+initializing k P = record P { is_initialize = λ m. m.0 == k }
+
+abbrev pub call : ℕ → Core → Core
+call name parts = of (f.Call (named name) true false) parts
+
+-- ---- puts 1 + 2
+
+abbrev pub sum_world : World
+sum_world = world_of
+    (scope_with Main None 0 1 0 [] ∷ [])
+    [] (of (f.Program (scope 0)) (of f.Puts (call 0 (leaf (f.Int32 (pos 1)) ⊕ leaf (f.Int32 (pos 2))))))
+    (λ name. Some (Builtin (operation.Scalar (scalar.Int32 (number.Reckon reckoning.Add))))) (λ c. nothing) (λ n. None) (λ m. row 0)
 
 -- ---- a choice that meets another
 --
@@ -157,9 +172,6 @@ meeting_world = world_of
 -- done.receive
 -- puts c.n
 
-abbrev pub call : ℕ → Core → Core
-call name parts = of (f.Call (named name) true false) parts
-
 abbrev pub method_of : ℕ → ℕ → Core → Core
 method_of name k parts = of (f.Def (named name) (scope k) false true) parts
 
@@ -204,60 +216,11 @@ counting_def m = row (if m.0 == 0 then 2 else if m.0 == 1 then 4 else 8)
 
 -- The class is row 1, its methods are rows 2, 4 and 8; the statements are row 11, the block is row 29.
 abbrev pub counting_world : World
-counting_world = world_of
+counting_world = initializing 2
+    (world_of
     (scope_with Main None 0 11 0 (slot 8 true ∷ slot 9 true ∷ slot 10 false ∷ [])
     ∷ scope_with Spawn (Some (scope 0)) 27 30 0 []
     ∷ scope_with OfMethod None 2 3 0 []
     ∷ scope_with OfMethod None 4 6 1 (slot 0 false ∷ [])
     ∷ scope_with OfMethod None 8 9 0 [] ∷ [])
-    (codes "p" ∷ []) two_counters counting_choice (λ c. goes_to (Method (method 2))) counting_makes counting_def
-
--- ---- small programs, each to count what it takes
-
--- a program of these statements alone, with locals of these numbers
-abbrev pub alone : List Slot → Core → World
-alone slots statements =
-    world_of (scope_with Main None 0 1 0 slots ∷ []) [] (of (f.Program (scope 0)) statements) (λ name. None) (λ c. nothing) (λ n. None) (λ m. row 0)
-
--- a method with this body, of no parameter, is called by its one name, and nothing else
-abbrev pub of_a_call : Core → World
-of_a_call body = world_of
-    (scope_with Main None 0 (2 + size body) 0 [] ∷ scope_with OfMethod None 1 2 0 [] ∷ [])
-    [] (of (f.Program (scope 0)) (method_of 0 1 body ⊕ of (f.Call (named 0) false false) none))
-    (λ name. Some (Method (method 0))) (λ c. nothing) (λ n. None) (λ m. row 1)
-
--- a local of the only scope
-abbrev pub x : Form
-x = f.Local (local 0 0 0)
-
-abbrev pub set_x : Core → Core
-set_x value = of (f.Set (local 0 0 0)) value
-
--- while condition; body; end
-abbrev pub looping : Core → Core → Core
-looping condition body = of f.While (of f.If (condition ⊕ (and_then body (leaf f.Again) ⊕ leaf f.Nil)))
-
--- n.times do |i| end, with the method as the prelude has it
-abbrev pub times_body : Core
-times_body =
-    and_then (of (f.Set (local 1 0 0)) (leaf (f.Int32 (pos 0))))
-    (and_then
-    (looping (call 1 (leaf (f.Local (local 1 0 0)) ⊕ leaf f.KeywordSelf))
-    (and_then (of f.Yield (leaf (f.Local (local 1 0 0)))) (of (f.Set (local 1 0 0)) (call 2 (leaf (f.Local (local 1 0 0)) ⊕ leaf (f.Int32 (pos 1)))))))
-    (leaf f.Nil))
-
-abbrev pub times_choice : NameId → Option Target
-times_choice name =
-    if name.0 == 0 then Some (Method (method 0))
-    else if name.0 == 1 then Some (Builtin (operation.Scalar (scalar.Int32 (number.Compare comparison.Less))))
-    else Some (Builtin (operation.Scalar (scalar.Int32 (number.Reckon reckoning.Add))))
-
-abbrev pub times : ℕ → World
-times n = world_of
-    (scope_with Main None 0 (2 + size times_body) 0 [] ∷ scope_with OfMethod None 1 2 0 (slot 3 false ∷ [])
-    ∷ scope_with InBlock (Some (scope 0)) (2 + size times_body) (6 + size times_body) 1 (slot 3 false ∷ []) ∷ [])
-    []
-    (of (f.Program (scope 0))
-    (method_of 0 1 times_body
-    ⊕ of (f.Call (named 0) true true) (leaf (f.Int32 (pos n)) ⊕ of (f.Block (scope 2)) (leaf (f.Parameter 0 false) ⊕ leaf f.Nil))))
-    times_choice (λ c. nothing) (λ m. None) (λ m. row 1)
+    (codes "p" ∷ []) two_counters counting_choice (λ c. goes_to (Method (method 2))) counting_makes counting_def)

@@ -1,8 +1,9 @@
 -- Histories: which entries are legal, the state after them, and how a run ends.
-use Rattle.std.specs.Prelude.{◌≡◌, ℕ, zero, suc, ◌+◌, ◌==◌, nat_lt, Bool, true, false, ◌&&◌, not, List, [], ◌∷◌, Option, Some, None, slice_get}
+use Rattle.std.specs.Prelude.{◌≡◌, ℕ, zero, suc, ◌+◌, ◌==◌, nat_lt, Bool, true, false, ◌&&◌, not, List, [], ◌∷◌, Option, Some, None, is_some, slice_get, take}
 use Rattle.cr_base.specs.declared.ids.FiberId.{FiberId}
 use Rattle.cr_schedule.specs.declared.entry.Entry.{Entry}
 use Rattle.cr_schedule.specs.declared.entry.Entry.TheVariants as entry
+use Rattle.cr_schedule.specs.Entry.{spent}
 use Rattle.cr_core.specs.declared.scope.Scope.{Scope}
 use Rattle.cr_value.specs.declared.value.Value.TheVariants.{Nil}
 use Rattle.cr_meaning.specs.World.{World}
@@ -160,6 +161,12 @@ run_from P s (e ∷ es) = and_then (after P e s) (λ s'. run_from P s' es)
 unfoldable pub run : World → List Entry → Option State
 run P entries = run_from P (start P) entries
 
+-- The first entry that is not legal has this number: the history before it is legal, and with it is not.
+pub record IsFirstIllegal (P : World) (entries : List Entry) (number : ℕ) : Type 0 where
+  pub there : is_some (slice_get entries number) ≡ true
+  pub legal_before : is_some (run P (take number entries)) ≡ true
+  pub illegal_with : run P (take (suc number) entries) ≡ None
+
 -- ---- endings
 
 abbrev pub IsFinished : State → Type 0
@@ -171,3 +178,25 @@ IsRaised s = status_at s 0 ≡ Raised
 -- main is not done, and no entry is legal
 abbrev pub IsDeadlock : World → State → Type 0
 IsDeadlock P s = (is_done (status_at s 0) ≡ false) × ((e : Entry) → IsLegal P e s → ⊥)
+
+-- main is not done, and some entry is legal
+abbrev pub IsUnfinished : World → State → Type 0
+IsUnfinished P s = (is_done (status_at s 0) ≡ false) × (e : Entry) × IsLegal P e s
+
+pub data Ending : Type 0 where
+  finished : Ending
+  raised : Ending
+  budget_spent : Ending
+  deadlock : Ending
+
+-- a history has spent the budget, where there is one
+abbrev pub HasSpent : Option ℕ → List Entry → Type 0
+HasSpent None entries = ⊥
+HasSpent (Some budget) entries = spent entries ≡ budget
+
+-- How a run has ended, with a budget or without one: of its history and the state to which that leads.
+abbrev pub Ends : World → Option ℕ → List Entry → State → Ending → Type 0
+Ends P budget entries s finished = IsFinished s
+Ends P budget entries s raised = IsRaised s
+Ends P budget entries s budget_spent = (is_done (status_at s 0) ≡ false) × HasSpent budget entries
+Ends P budget entries s deadlock = IsDeadlock P s × (HasSpent budget entries → ⊥)

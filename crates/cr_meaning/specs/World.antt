@@ -50,9 +50,10 @@ pub record World : Type 0 where
   pub choose_super : ClassId → MethodId → List ClassId → Further
   -- the `initialize` that a `new` of this class with arguments of these runs
   pub choose_initialize : ClassId → List ClassId → Further
-  -- the row of a method's `def`, and whether it is one of the top level
+  -- the row of a method's `def`, whether it is one of the top level, and whether it is an `initialize`
   pub def_of : MethodId → NodeId
   pub is_top : MethodId → Bool
+  pub is_initialize : MethodId → Bool
   -- what `new` on the class of this row makes, and whether one of these rows' classes is above a class
   pub makes : NodeId → Option Made
   pub covers : List NodeId → ClassId → Bool

@@ -1,6 +1,7 @@
 //! What holds along every legal history.
 
 ghost use Rattle.cr_meaning.specs.Histories.{ChannelsAreLawful, ChannelsEvolve, HistoriesGoOn, NothingAfterTheEnd, OneEnding, SelectsTakeOne};
+ghost use Rattle.cr_meaning.specs.Meetings.{EntriesMeet, PartnersAreMet};
 
 use cr_items::{channel_law, received_law};
 
@@ -29,7 +30,7 @@ pub fn nothing_after_the_end()
     ensures { NothingAfterTheEnd }
 {}
 
-/// That main finished, that it raised, that no fiber can go on: at most one of these holds.
+/// That main finished, that it raised, that the budget is spent, that no fiber can go on: at most one of these holds.
 pub fn one_ending()
     ensures { OneEnding }
 {}
@@ -37,4 +38,15 @@ pub fn one_ending()
 /// Each reduction of a `select` takes the one clause that is chosen, which is ready, or its `else`, where none is.
 pub fn selects_take_one()
     ensures { SelectsTakeOne }
+{}
+
+/// Each reduction that names a partner is a meeting with it: the partner waited, its operation is completed by the clause that is
+/// named, and no other clause of its choice stands.
+pub fn partners_are_met()
+    ensures { PartnersAreMet }
+{}
+
+/// Each legal entry that names a partner ends in a meeting with it, by the clauses that the entry names.
+pub fn entries_meet()
+    ensures { EntriesMeet }
 {}

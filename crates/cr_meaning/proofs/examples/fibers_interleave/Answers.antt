@@ -5,8 +5,16 @@ use Rattle.cr_builtins.specs.Numbers.{on_integer, reckon}
 use Rattle.cr_meaning.specs.Term.{tree}
 use Rattle.cr_meaning.specs.Reduce.{reduce}
 use Rattle.cr_meaning.specs.Run.{run, start, after}
+use Rattle.cr_meaning.specs.Examples.{plain}
 use Rattle.cr_meaning.proofs.examples.fibers_interleave.Goals as goal
 
 pub returns : goal.returns
 unfolding run start after reduce tree digits scalar on_integer reckon
-returns c = record { behind = refl; at_once = refl; spent_behind = refl; spent_at_once = refl; nobody = refl; goes = refl }
+returns c = record {
+  behind = refl;
+  at_once = refl;
+  spent_behind = refl;
+  spent_at_once = refl;
+  nobody = record { there = refl; legal_before = refl; illegal_with = refl };
+  early = (plain 0 1, refl);
+}

@@ -19,8 +19,13 @@ returns c = record {
   no_turn = refl;
   broken = refl;
   one_turn = refl;
-  called = refl;
-  returned = refl;
-  not_once = refl;
-  twice = refl;
+  next_turn = refl;
+  endless = refl;
+  endless_goes = refl;
+  class_test = refl;
+  printed = refl;
+  paused = refl;
+  raised = refl;
+  array = refl;
+  hash = refl;
 }
