@@ -303,37 +303,6 @@ fn a_use_of_each_variable(rt: HostRuntime) -> Result<(), Fail> {
     Ok(())
 }
 
-fn uses_in(
-    alloc: Global,
-    tree: &CoreTree,
-    variables: &[Variable],
-    ranks: &[Option<u32>],
-) -> Result<Vec<Unassigned>, NoMemory> {
-    if tree.scope_count() > 0 {
-        unassigned_in(alloc, tree, ScopeId(0), variables, ranks)
-    } else {
-        Ok(Vec::new(alloc))
-    }
-}
-
-#[test]
-fn a_use_of_several_variables(rt: HostRuntime) -> Result<(), Fail> {
-    let tree = sample(rt.alloc())?;
-    let x = Variable::Local {
-        scope: ScopeId(0),
-        slot: 0,
-    };
-    let ranks = [None, None, Some(4), Some(7)];
-    let variables = [x, Variable::Field(NameId(0))];
-    let found = uses_in(rt.alloc(), &tree, &variables, &ranks)?;
-    let expected = [false, true].map(|end| Unassigned {
-        first_use: Some(4),
-        end,
-    });
-    assert_eq!(rt; found.as_slice(), expected.as_slice());
-    Ok(())
-}
-
 #[test]
 fn captured_slots(rt: HostRuntime) -> Result<(), Fail> {
     let slots = [true, false, true].map(|captured| Slot {
