@@ -1,0 +1,11 @@
+pub mod Spots
+pub mod Nodes
+pub mod Plugs
+pub mod Table
+pub mod Unrolled
+pub mod Stacks
+pub mod Moving
+pub mod Resuming
+pub mod Choosing
+pub mod Frames
+pub mod Leaving

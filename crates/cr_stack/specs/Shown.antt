@@ -1,0 +1,29 @@
+-- What a stack shows of its redex.
+use Rattle.std.specs.Prelude.{◌≡◌, Option, Some, None}
+use Rattle.cr_value.specs.declared.value.Value.{Value}
+use Rattle.cr_meaning.specs.World.{World}
+use Rattle.cr_meaning.specs.Term.{Term, Val, Turn, Frame, Body, Sent}
+use Rattle.cr_meaning.specs.Redex.{redex}
+use Rattle.cr_stack.specs.declared.around.Around.{Around}
+use Rattle.cr_stack.specs.declared.around.Around.TheVariants as a
+use Rattle.cr_stack.specs.declared.around.Redex.{Redex}
+use Rattle.cr_stack.specs.declared.around.Redex.TheVariants as r
+use Rattle.cr_stack.specs.Layers.{ready, choice}
+
+-- This is the redex of that term, or the value that it is.
+abbrev pub IsShown : World → Redex → Term → Type 0
+IsShown P (r.Finished v) t = t ≡ Val v.now
+IsShown P (r.Node n vs) t = redex t ≡ Some (ready P n vs.now)
+IsShown P (r.Choice n vss) t = redex t ≡ Some (choice P n vss.now)
+IsShown P r.Turn t = (fresh : Term) × (v : Value) × (redex t ≡ Some (Turn fresh (Val v)))
+IsShown P r.Frame t = (gives : Option Value) × (v : Value) × (redex t ≡ Some (Frame gives (Val v)))
+IsShown P r.Body t = (v : Value) × (redex t ≡ Some (Body (Val v)))
+IsShown P (r.Sent channel item) t = redex t ≡ Some (Sent channel item)
+
+-- This is shown of a value inside this layer, or inside none.
+abbrev pub ShowsValue : Option Around → Value → Redex → Type 0
+ShowsValue None v (r.Finished w) = w.now ≡ v
+ShowsValue (Some (a.Turn n)) v r.Turn = Unit {0}
+ShowsValue (Some (a.Frame gives)) v r.Frame = Unit {0}
+ShowsValue (Some a.Body) v r.Body = Unit {0}
+ShowsValue layer v shown = ⊥
