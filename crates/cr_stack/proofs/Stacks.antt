@@ -16,7 +16,7 @@ use Rattle.cr_stack.specs.Neat.{IsNeatAround, IsNeatNow, AreNeat, IsNeat}
 use Rattle.cr_stack.specs.Steps.{innermost, IsEnd, IsEndOrNone, EndsAt, IsReduced, Puts, Closes, given_by, finished}
 use Rattle.cr_stack.specs.declared.around.Redex.{Redex}
 use Rattle.cr_stack.specs.declared.around.Redex.TheVariants as r
-use Rattle.cr_stack.specs.Shown.{IsShown, ShowsValue}
+use Rattle.cr_stack.specs.Shown.{IsShown, StandsThere, IsWhole, ShowsValue}
 use Rattle.std.proofs.lemmas.Option.{same_Some}
 use Rattle.cr_stack.proofs.Plugs.{reduced_is, sees_plug, puts_plug, plug_append, put_there, neat_front, neat_back, neat_append}
 
@@ -187,3 +187,29 @@ pub shows_node : (s : Layers) (n : Now) → s.focus ≡ n → IsReduced n → (P
 shows_node s n e r P h =
     let m : IsNeatNow P.rows n = subst (IsNeatNow P.rows) e h.focus in
     ap (λ x. redex (plug P s.around (now_of P x))) e ∙ sees_plug P s.around (now_of P n) (now_of P n) h.around (reduced_is P n m r).is
+
+pub value_stands : (s : Layers) (v : Value) (shown : Redex) → s.focus ≡ now.Value v → ShowsValue (innermost s.around) v shown → StandsThere shown s
+value_stands s v shown e h = by (innermost s.around) refl shown h
+  where
+    ends : (o : Option Around) → innermost s.around ≡ o → IsEnd o → EndsAt s.around s.focus
+    ends o i h = subst (EndsAt s.around) (sym e) (subst IsEnd (sym i) h)
+
+    by : (o : Option Around) → innermost s.around ≡ o → (shown : Redex) → ShowsValue o v shown → StandsThere shown s
+    by None i (r.Finished w) h = tt
+    by (Some (a.Turn n)) i r.Turn h = ends (Some (a.Turn n)) i tt
+    by (Some (a.Frame gives)) i r.Frame h = ends (Some (a.Frame gives)) i tt
+    by (Some a.Body) i r.Body h = ends (Some a.Body) i tt
+    by other i shown h = absurd h
+
+pub value_whole : (rows : List Row) (o : Option Around) (v : Value) (shown : Redex) → ShowsValue o v shown → IsWhole rows shown
+value_whole rows None v (r.Finished w) h = tt
+value_whole rows (Some (a.Turn n)) v r.Turn h = tt
+value_whole rows (Some (a.Frame gives)) v r.Frame h = tt
+value_whole rows (Some a.Body) v r.Body h = tt
+value_whole rows other v shown h = absurd h
+
+pub reduced_stands : (s : Layers) (n : Now) → s.focus ≡ n → IsReduced n → IsReduced s.focus
+reduced_stands s n e h = subst IsReduced (sym e) h
+
+pub reduced_neat : (s : Layers) (n : Now) → s.focus ≡ n → (rows : List Row) → IsNeat rows s → IsNeatNow rows n
+reduced_neat s n e rows h = subst (IsNeatNow rows) e h.focus

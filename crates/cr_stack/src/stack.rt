@@ -9,7 +9,7 @@ ghost use Rattle.cr_stack.specs.Layers.{IsWorldOf, term};
 ghost use Rattle.cr_stack.specs.Jumps.{JumpsTo, left_frames, returns};
 ghost use Rattle.cr_stack.specs.Neat.{IsNeat, IsTerm};
 ghost use Rattle.cr_stack.specs.Steps.{innermost, IsEndOrNone, IsReduced, IsOpen, Ends, Puts, Closes};
-ghost use Rattle.cr_stack.specs.Shown.{IsShown, ShowsValue};
+ghost use Rattle.cr_stack.specs.Shown.{IsShown, StandsThere, IsWhole, ShowsValue};
 
 use crate::around::{Around, Now, Redex, finished, frame_of};
 use crate::going::go;
@@ -77,7 +77,9 @@ impl Stack {
     /// What is reduced next. Takes no memory.
     pub fn redex(&self) -> Redex<'_>
         requires { IsOpen self.now }
-        ensures { (P : World) → IsNeat P.rows self.now → IsShown P result (term P self.now) }
+        ensures shown { (P : World) → IsNeat P.rows self.now → IsShown P result (term P self.now) }
+        ensures place { StandsThere result self.now }
+        ensures whole { (rows : List Row) → IsNeat rows self.now → IsWhole rows result }
     {
         match &self.focus {
             Now::Node(_) => unreachable!(),
