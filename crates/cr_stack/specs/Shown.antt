@@ -1,5 +1,5 @@
 -- What a stack shows of its redex.
-use Rattle.std.specs.Prelude.{◌≡◌, List, Option, Some, None}
+use Rattle.std.specs.Prelude.{◌≡◌, List, [], ◌∷◌, Option, Some, None}
 use Rattle.cr_value.specs.declared.value.Value.{Value}
 use Rattle.cr_core.specs.declared.row.Row.{Row}
 use Rattle.cr_core.specs.Shape as shape
@@ -8,6 +8,7 @@ use Rattle.cr_meaning.specs.Term.{Term, Val, Turn, Frame, Body, Sent}
 use Rattle.cr_meaning.specs.Redex.{redex}
 use Rattle.cr_stack.specs.declared.around.Around.{Around}
 use Rattle.cr_stack.specs.declared.around.Around.TheVariants as a
+use Rattle.cr_stack.specs.declared.around.Now.{Now}
 use Rattle.cr_stack.specs.declared.around.Redex.{Redex}
 use Rattle.cr_stack.specs.declared.around.Redex.TheVariants as r
 use Rattle.cr_stack.specs.Layers.{Layers, ready, choice}
@@ -51,3 +52,11 @@ IsWhole rows r.Turn = Unit {0}
 IsWhole rows r.Frame = Unit {0}
 IsWhole rows r.Body = Unit {0}
 IsWhole rows (r.Sent channel item) = Unit {0}
+
+-- the part, where no layer surrounds it
+abbrev pub alone_in : List Around → Now → Option Now
+alone_in [] n = Some n
+alone_in (k ∷ ks) n = None
+
+abbrev pub alone : Layers → Option Now
+alone s = alone_in s.around s.focus

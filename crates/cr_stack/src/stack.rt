@@ -1,22 +1,24 @@
 //! The stack of a fiber. What it stands for is the term of its layers put round one another: a step changes the innermost ones
 //! alone. The number of its layers that are calls is kept beside them.
-ghost use Rattle.std.specs.Prelude.{◌≡◌, ◌<◌, ◌+◌, List, OnOk};
+ghost use Rattle.std.specs.Prelude.{◌≡◌, ◌<◌, ◌+◌, List, [], IfOk, OnOk};
+ghost use Rattle.std.specs.Option.{option_copied};
 ghost use Rattle.cr_core.specs.declared.row.Row.{Row};
 ghost use Rattle.cr_meaning.specs.World.{World};
 ghost use Rattle.cr_meaning.specs.Term.{Val, Turn, Frame, Body, Sent, tree};
 ghost use Rattle.cr_meaning.specs.Redex.{frames};
-ghost use Rattle.cr_stack.specs.Layers.{IsWorldOf, term};
+ghost use Rattle.cr_core.specs.Shape as shape;
+ghost use Rattle.cr_stack.specs.Layers.{IsWorldOf, partly, ready, term};
 ghost use Rattle.cr_stack.specs.Jumps.{JumpsTo, left_frames, returns};
-ghost use Rattle.cr_stack.specs.Neat.{IsNeat, IsTerm};
+ghost use Rattle.cr_stack.specs.Neat.{HasAll, IsNeat, IsTerm, Lacks};
 ghost use Rattle.cr_stack.specs.Steps.{innermost, IsEndOrNone, IsReduced, IsOpen, Ends, Puts, Closes};
-ghost use Rattle.cr_stack.specs.Shown.{IsShown, StandsThere, IsWhole, ShowsValue};
+ghost use Rattle.cr_stack.specs.Shown.{IsShown, StandsThere, IsWhole, ShowsValue, alone};
 
 use crate::around::{Around, Now, Redex, finished, frame_of};
 use crate::going::go;
 use crate::jumping::{Exit, Jumped, jump};
 use crate::lists::push_within;
 use cr_base::{NoMemory, NodeId};
-use cr_core::CoreTree;
+use cr_core::{CoreTree, Listed};
 use cr_value::Value;
 use std::alloc::Global;
 use std::marker::Model;
@@ -50,6 +52,31 @@ impl Stack {
             around: Vec::new(alloc),
             focus: Now::Node(node),
             frames: 0,
+        }
+    }
+
+    /// A block in progress whose body is the core tree of a node.
+    pub fn of_block(alloc: Global, node: NodeId) -> Result<Self, NoMemory>
+        ensures term { IfOk result (λ s. (P : World) → term P s ≡ Body (tree P node)) }
+        ensures neat { IfOk result (λ s. (rows : List Row) → IsTerm rows node → IsNeat rows s) }
+    {
+        let mut around = Vec::new(alloc);
+        around.push(Around::Body)?;
+        Ok(Stack {
+            around,
+            focus: Now::Node(node),
+            frames: 0,
+        })
+    }
+
+    /// The part that is reduced next, where no layer surrounds it: it is the whole term. Takes no memory.
+    pub fn alone(&self) -> Option<&Now>
+        ensures { option_copied result ≡ alone self.now }
+    {
+        if self.around.is_empty() {
+            Some(&self.focus)
+        } else {
+            None
         }
     }
 
@@ -155,6 +182,18 @@ impl Stack {
     {
         push_within(&mut self.around, Around::Turn(node));
         self.focus = Now::Node(node);
+    }
+
+    /// Puts a node in place of the redex, which is the part inside the layers: of its parts the first, a node too, has these values of all
+    /// parts that are reduced before it, and stands to be reduced. Takes no memory.
+    pub fn put_first(&mut self, alloc: Global, node: NodeId, first: NodeId, values: Listed<Value>)
+        requires reduced { IsReduced self.old.focus }
+        requires room { 0 < self.old.room }
+        ensures step { Puts self.old (λ P. partly P node [] (ready P first values)) self.new }
+        ensures neat { (rows : List Row) → Lacks rows node [] shape.Term → HasAll rows first values shape.Term → IsNeat rows self.old → IsNeat rows self.new }
+    {
+        push_within(&mut self.around, Around::Part(node, Listed::new(alloc)));
+        self.focus = Now::Ready(first, values);
     }
 
     /// Puts a call in place of the redex, which is the part inside the layers: its body is the core tree of a node. It gives its

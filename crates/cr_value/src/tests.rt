@@ -114,29 +114,49 @@ fn the_smallest_number_has_no_opposite(rt: HostRuntime) {
     }
 }
 
+// The bytes of a text that an operation made, or nothing where it would be too long.
+fn made(text: Result<Text, TextFault>) -> Result<Option<u32>, Fail> {
+    match text {
+        Ok(text) => Ok(Some(text.byte_size())),
+        Err(TextFault::TooLong) => Ok(None),
+        Err(TextFault::NoMemory) => Err(Fail::from(NoMemory)),
+    }
+}
+
+fn repeated(alloc: Global, of: &str, count: u32) -> Result<Option<u32>, Fail> {
+    let text = text(alloc, of)?;
+    made(Text::times(alloc, &text, count))
+}
+
+fn joined(alloc: Global, first: &str, second: &str) -> Result<Option<u32>, Fail> {
+    let (first, second) = (text(alloc, first)?, text(alloc, second)?);
+    made(Text::join(alloc, &first, &second))
+}
+
 #[test]
 fn a_text_has_at_most_the_limit_of_bytes(rt: HostRuntime) -> Result<(), Fail> {
     let alloc = rt.alloc();
     let most = "x".repeat(alloc, TEXT_LIMIT)?;
+    assert_eq!(rt; made(Text::of(alloc, most.as_str()))?, Some(1_048_576));
+    assert_eq!(rt; joined(alloc, most.as_str(), "")?, Some(1_048_576));
+    assert_eq!(rt; joined(alloc, most.as_str(), "x")?, None);
     let more = "x".repeat(alloc, TEXT_LIMIT + 1)?;
-    let one = text(alloc, "x")?;
-    let two = text(alloc, "é")?;
-    let empty = text(alloc, "")?;
-    let full = text(alloc, most.as_str())?;
-    assert_eq!(rt; full.byte_size(), 1_048_576);
-    assert_eq!(rt; Text::of(alloc, more.as_str()), Err(TextFault::TooLong));
-    assert_eq!(rt; Text::times(alloc, &one, 1_048_576)?, full.copy(alloc)?);
-    assert_eq!(rt;
-        Text::times(alloc, &one, 1_048_577),
-        Err(TextFault::TooLong)
-    );
-    assert_eq!(rt; Text::times(alloc, &two, 524_289), Err(TextFault::TooLong));
-    assert_eq!(rt; Text::times(alloc, &two, 3)?, text(alloc, "ééé")?);
-    assert_eq!(rt; Text::times(alloc, &empty, u32::MAX)?, text(alloc, "")?);
-    assert_eq!(rt; Text::times(alloc, &full, 0)?, text(alloc, "")?);
-    assert_eq!(rt; Text::join(alloc, &full, &empty)?, full.copy(alloc)?);
-    assert_eq!(rt; Text::join(alloc, &full, &one), Err(TextFault::TooLong));
-    assert_eq!(rt; Text::join(alloc, &two, &one)?, text(alloc, "éx")?);
+    assert_eq!(rt; made(Text::of(alloc, more.as_str()))?, None);
+    Ok(())
+}
+
+#[test]
+fn a_repeated_text_has_at_most_the_limit_of_bytes(rt: HostRuntime) -> Result<(), Fail> {
+    for (of, count, size) in [
+        ("x", 1_048_576, Some(1_048_576)),
+        ("x", 1_048_577, None),
+        ("é", 524_289, None),
+        ("é", 3, Some(6)),
+        ("", u32::MAX, Some(0)),
+        ("xx", 0, Some(0)),
+    ] {
+        assert_eq!(rt; repeated(rt.alloc(), of, count)?, size, "{of} {count}");
+    }
     Ok(())
 }
 

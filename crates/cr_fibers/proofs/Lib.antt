@@ -1,0 +1,7 @@
+mod Values
+mod Around
+mod Kept
+mod Beginning
+mod Reducing
+mod Reading
+mod Entered
