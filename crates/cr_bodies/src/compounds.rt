@@ -17,7 +17,7 @@ use crate::parser::Parser;
 use cr_grammar::{Tree, Wanted, Within};
 use cr_readers::{Cursor, ParseFault};
 use cr_syntax::TokenLook;
-use cr_words::separators;
+use cr_words::{add, separators};
 use sqlite_items::{Boxed, Items};
 use std::alloc::Global;
 
@@ -129,7 +129,11 @@ impl<
             if !cursor.sees(first_word(clause)) {
                 return Ok(found);
             }
-            found.push(self.clause(cursor, clause)?.into_inner())?;
+            add(
+                self.alloc,
+                &mut found,
+                self.clause(cursor, clause)?.into_inner(),
+            )?;
         }
         Err(ParseFault::NoMemory)
     }
@@ -141,7 +145,11 @@ impl<
         ensures { Reads (compounds.some_of self.now.turns (clauses.first_word clause) (clauses.clause self.now.turns (read self.now.turns self.now.deep) clause) (state_of cursor.old)) result (state_of cursor.new) }
     {
         let mut found = Items::new(self.alloc);
-        found.push(self.clause(cursor, clause)?.into_inner())?;
+        add(
+            self.alloc,
+            &mut found,
+            self.clause(cursor, clause)?.into_inner(),
+        )?;
         self.more_clauses(cursor, clause, found)
     }
 

@@ -21,7 +21,7 @@ use crate::parser::Parser;
 use cr_grammar::{Tree, Wanted, Within};
 use cr_readers::{Cursor, ParseFault};
 use cr_syntax::TokenLook;
-use cr_words::{begins_block, begins_stmt, ident, separators};
+use cr_words::{add, begins_block, begins_stmt, ident, separators};
 use sqlite_items::{Boxed, Items};
 use std::alloc::Global;
 
@@ -79,7 +79,11 @@ impl<
             if !begins_line(cursor, lines) {
                 return Ok(found);
             }
-            found.push(self.statement(cursor, lines)?.into_inner())?;
+            add(
+                self.alloc,
+                &mut found,
+                self.statement(cursor, lines)?.into_inner(),
+            )?;
             if !self.behind_line(cursor)? {
                 return Ok(found);
             }
@@ -201,7 +205,11 @@ impl<
         ensures { Reads (lists.listed self.now.turns (items.item self.now.turns (read self.now.turns self.now.deep) item) (state_of cursor.old)) result (state_of cursor.new) }
     {
         let mut found = Items::new(self.alloc);
-        found.push(self.item(cursor, item)?.into_inner())?;
+        add(
+            self.alloc,
+            &mut found,
+            self.item(cursor, item)?.into_inner(),
+        )?;
         self.items(cursor, item, found)
     }
 }

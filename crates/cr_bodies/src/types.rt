@@ -18,7 +18,7 @@ use crate::parser::Parser;
 use cr_grammar::{Atom, Path, Tree, Wanted, Word};
 use cr_readers::{Cursor, ParseFault};
 use cr_syntax::{TokenLook, TokenText};
-use cr_words::{constant, separators, spelled};
+use cr_words::{add, constant, separators, spelled};
 use sqlite_items::{Boxed, Items};
 use std::alloc::Global;
 
@@ -61,7 +61,7 @@ fn path_behind(
     ensures { Reads (atoms.path_behind turns first (state_of cursor.old)) result (state_of cursor.new) }
 {
     let mut found = Items::new(alloc);
-    found.push(first.text)?;
+    add(alloc, &mut found, first.text)?;
     let names = names(alloc, cursor, turns, found)?;
     Ok(Path {
         at: first.at,
@@ -115,14 +115,15 @@ fn add_atoms(alloc: Global, trees: &mut Items<Tree>, atom: Atom) -> Result<(), P
         arguments,
         question,
     } = atom;
-    trees.push(Tree::Atom {
+    let tree = Tree::Atom {
         at,
         path: names,
         arguments,
-    })?;
+    };
+    add(alloc, trees, tree)?;
     if let Some(at) = question {
         let mut path = Items::new(alloc);
-        path.push(spelled(alloc, "Nil")?)?;
+        add(alloc, &mut path, spelled(alloc, "Nil")?)?;
         trees.push(Tree::Atom {
             at,
             path,

@@ -19,7 +19,7 @@ use crate::names::include;
 use cr_grammar::{Tree, Wanted};
 use cr_readers::{Cursor, ParseFault};
 use cr_syntax::TokenLook;
-use cr_words::{comma, ident, instance_variable, separators};
+use cr_words::{add, comma, ident, instance_variable, separators};
 use sqlite_items::{Boxed, Items};
 use std::alloc::Global;
 
@@ -150,7 +150,11 @@ impl<
         ensures { Reads (lists.listed self.now.parser.turns (reader.part (items.declared self.now.parser.turns (read self.now.parser.turns self.now.parser.deep) declared)) (state_of cursor.old)) result (state_of cursor.new) }
     {
         let mut found = Items::new(self.parser.alloc);
-        found.push(self.declared_part(cursor, declared)?.into_inner())?;
+        add(
+            self.parser.alloc,
+            &mut found,
+            self.declared_part(cursor, declared)?.into_inner(),
+        )?;
         self.more_declared(cursor, declared, found)
     }
 
@@ -252,7 +256,11 @@ impl<
             if !begins_member(cursor, of) {
                 return Ok(found);
             }
-            found.push(self.member_part(cursor, of)?.into_inner())?;
+            add(
+                self.parser.alloc,
+                &mut found,
+                self.member_part(cursor, of)?.into_inner(),
+            )?;
             if !self.parser.behind_line(cursor)? {
                 return Ok(found);
             }

@@ -6,6 +6,7 @@ ghost use Rattle.cr_lex.specs.Texts.{ends_plain as plain_ends, ending_length, en
 ghost use Rattle.cr_lex.specs.Parts.{Scans, ReadsPart, IsWithin};
 
 use crate::bytes::begins_brace;
+use cr_base::NoMemory;
 use cr_syntax::{TokenKind, TokenText};
 use std::alloc::{AllocError, AllocFailed, Global};
 
@@ -23,6 +24,17 @@ pub enum PartFault {
     Escape(usize),
     Unended,
     NoMemory,
+}
+
+impl From<NoMemory> for PartFault {
+    ghost use Rattle.std.specs.Prelude.{◌≡◌};
+    ghost use Rattle.cr_lex.specs.declared.texts.PartFault.TheVariants as fault;
+
+    ghost from_gives = { λ _ e. e ≡ fault.NoMemory };
+
+    fn from(_: NoMemory) -> Self {
+        PartFault::NoMemory
+    }
 }
 
 impl From<AllocError> for PartFault {
@@ -177,7 +189,10 @@ pub fn part(alloc: Global, quoted: bool, bytes: &[u8]) -> Result<(TokenKind, usi
                 opens,
                 len,
             },
-        ) => { Ok((part_kind(quoted, opens, TokenText::new(content)), len)) }
+        ) => {
+            let text = TokenText::of_bytes(alloc, content.as_slice())?;
+            Ok((part_kind(quoted, opens, text), len))
+        }
         Err(fault) => Err(fault),
     }
 }

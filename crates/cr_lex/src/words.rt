@@ -16,7 +16,7 @@ fn copied(alloc: Global, text: &[u8]) -> Result<TokenText, NoMemory>
     requires { IsUtf8 text.now }
     ensures { IfOk result (λ t. t ≡ text.now) }
 {
-    Ok(TokenText::new(Vec::from_slice(alloc, text)?))
+    TokenText::of_bytes(alloc, text)
 }
 
 /// The keyword, or else the name.

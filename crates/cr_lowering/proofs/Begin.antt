@@ -9,11 +9,11 @@ use Rattle.cr_core.specs.Core.{Core, one}
 use Rattle.cr_core.specs.Shape as sh
 use Rattle.cr_core.specs.Shape.{Role, Portion, Are, Fits}
 use Rattle.cr_core.specs.Standing.{Shaped}
-use Rattle.cr_rewrite.specs.declared.naming.Opened.{Opened}
-use Rattle.cr_rewrite.specs.Naming.{Given, settled}
-use Rattle.cr_rewrite.specs.Making.{Making, ◌▸◌, wrapped, in_prelude, ahead, nest, sequence}
-use Rattle.cr_rewrite.specs.Part.{Part}
-use Rattle.cr_rewrite.specs.Table.{part}
+use Rattle.cr_making.specs.declared.naming.Opened.{Opened}
+use Rattle.cr_making.specs.Naming.{Given, settled}
+use Rattle.cr_making.specs.Making.{Making, ◌▸◌, wrapped, in_prelude, ahead, nest, sequence}
+use Rattle.cr_making.specs.Part.{Part}
+use Rattle.cr_making.specs.Table.{part}
 use Rattle.cr_rewrite.specs.Whole.{first_scope, program, begin, made}
 use Rattle.cr_lowering.proofs.Grows.{Slotted, frame, frames, AreWider, AreNamed, IsState}
 use Rattle.cr_lowering.proofs.Fresh.{slots_at, frame_at, Known, OpensIn, known_more, Once, OpensAll, all_opened, Placed, no_parameters, are_append}

@@ -4,9 +4,9 @@ use Rattle.std.proofs.Common.{◌≡◌, ◌≢◌, ℕ, suc, ◌+◌, ◌⊎◌
 use Rattle.std.proofs.lemmas.Bool.Decides.{eqb_tells}
 use Rattle.cr_base.specs.declared.ids.NameId.{NameId}
 use Rattle.cr_core.specs.declared.form.Local.{Local}
-use Rattle.cr_rewrite.specs.declared.naming.Opened.{Opened}
-use Rattle.cr_rewrite.specs.Slots.{later, is_slot, slot_of}
-use Rattle.cr_rewrite.specs.Naming.{State, local_at, resolved_from, resolved}
+use Rattle.cr_making.specs.declared.naming.Opened.{Opened}
+use Rattle.cr_making.specs.Slots.{later, is_slot, slot_of}
+use Rattle.cr_making.specs.Naming.{State, local_at, resolved_from, resolved}
 use Rattle.cr_lowering.specs.Laws.{IsDeclared}
 use Rattle.cr_lowering.proofs.Grows.{Slotted}
 

@@ -7,10 +7,10 @@ use Rattle.cr_core.specs.declared.form.Form.{Form}
 use Rattle.cr_core.specs.declared.form.Form.TheVariants as f
 use Rattle.cr_core.specs.declared.form.Local.{Local}
 use Rattle.cr_core.specs.Shape as sh
-use Rattle.cr_rewrite.specs.Making.{Making, nothing, ◌▸◌, wrapped, leaf, using, all, Ahead}
-use Rattle.cr_rewrite.specs.Part.{Part, Head, NoHead, union}
-use Rattle.cr_rewrite.specs.Terms as t
-use Rattle.cr_rewrite.specs.Table.{part, part_level, parts, nils}
+use Rattle.cr_making.specs.Making.{Making, nothing, ◌▸◌, wrapped, leaf, using, all, Ahead}
+use Rattle.cr_making.specs.Part.{Part, Head, NoHead, union}
+use Rattle.cr_making.specs.Terms as t
+use Rattle.cr_making.specs.Table.{part, part_level, parts, nils}
 use Rattle.cr_lowering.proofs.Good.{Good, Always, always_keeps, good_none, good_no_pairs, good_one_many, good_nil, keeps_local, Sees, Goods, Term}
 use Rattle.cr_lowering.proofs.Inside.{GoodParameters, no_parameters_made}
 use Rattle.cr_lowering.proofs.Goods as g

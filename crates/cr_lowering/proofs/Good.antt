@@ -14,11 +14,11 @@ use Rattle.cr_core.specs.Shape as sh
 use Rattle.cr_core.specs.Shape.{Role, role, Portion, portions, Are, Fits}
 use Rattle.cr_core.specs.Standing.{roles, Shaped}
 use Rattle.cr_core.specs.Tree.{names_of, text_of, local_of}
-use Rattle.cr_rewrite.specs.declared.naming.Opened.{Opened}
-use Rattle.cr_rewrite.specs.declared.naming.Passed.{Passed}
-use Rattle.cr_rewrite.specs.Slots.{later, is_slot, slot_of}
-use Rattle.cr_rewrite.specs.Naming.{State, Given, named, literal, declared, declared_times, fresh, later_local, with_parameters, local_at, resolved_from, resolved, found, target_by, target, outermost_of, passed}
-use Rattle.cr_rewrite.specs.Making.{Making, gives, nothing, ◌▸◌, flipped, wrapped, leaf, using, in_prelude, all, Ahead, nest, nest_left, sequence}
+use Rattle.cr_making.specs.declared.naming.Opened.{Opened}
+use Rattle.cr_making.specs.declared.naming.Passed.{Passed}
+use Rattle.cr_making.specs.Slots.{later, is_slot, slot_of}
+use Rattle.cr_making.specs.Naming.{State, Given, named, literal, declared, declared_times, fresh, later_local, with_parameters, local_at, resolved_from, resolved, found, target_by, target, outermost_of, passed}
+use Rattle.cr_making.specs.Making.{Making, gives, nothing, ◌▸◌, flipped, wrapped, leaf, using, in_prelude, all, Ahead, nest, nest_left, sequence}
 use Rattle.cr_lowering.proofs.Grows.{Slotted, Frame, frame, frames, IsSeen, IsBelow, seen_wider, parameter_slot, AreOpen, IsState, Extends, extends_refl, extends_trans, frames_wider, KnowsForm, knows_more, place_known, named_extends, named_state, literal_extends, literal_state, declared_extends, declared_state}
 use Rattle.cr_lowering.proofs.Fresh.{sees_out, Known, known_more, known_join, OpensAll, all_none, all_join, all_flipped, opens_none, opens_well_none, frames_none, all_node, Placed, placed_join, shaped_join, NoParameter, no_parameters, fits_join, fits_many, are_of, are_append, one_many, pairs_none, merge_pairs}
 use Rattle.cr_lowering.proofs.Told.{ToldIn, NamedSlot, IsNew, declared_older, nameless_older, times_older, OldOrTold, told_later, told_join, told_flipped, told_node, told_naming}

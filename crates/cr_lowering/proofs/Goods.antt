@@ -14,14 +14,14 @@ use Rattle.cr_core.specs.Arena.{opening}
 use Rattle.cr_core.specs.Shape as sh
 use Rattle.cr_core.specs.Shape.{Role, role, Portion, portions, Fits, where_told}
 use Rattle.cr_core.specs.Tree.{names_of, text_of, local_of}
-use Rattle.cr_rewrite.specs.declared.naming.Passed.{Passed}
-use Rattle.cr_rewrite.specs.declared.words.Word.{Word}
-use Rattle.cr_rewrite.specs.declared.words.Word.TheVariants.{Puts, Raise, NoWord}
-use Rattle.cr_rewrite.specs.Words.{word_of, operator, index_name, variable, path_name}
-use Rattle.cr_rewrite.specs.Naming.{State, named, literal, found, later_local, passed}
-use Rattle.cr_rewrite.specs.Making.{Making, nothing, ◌▸◌, wrapped, leaf, using}
-use Rattle.cr_rewrite.specs.Part.{Part, Head, NoHead, Called, Element, Variable, own_of, each, is_there, terms, held, held_block, line, statements_of, statements, union, held_union}
-use Rattle.cr_rewrite.specs.Terms as t
+use Rattle.cr_making.specs.declared.naming.Passed.{Passed}
+use Rattle.cr_making.specs.declared.words.Word.{Word}
+use Rattle.cr_making.specs.declared.words.Word.TheVariants.{Puts, Raise, NoWord}
+use Rattle.cr_making.specs.Words.{word_of, operator, index_name, variable, path_name}
+use Rattle.cr_making.specs.Naming.{State, named, literal, found, later_local, passed}
+use Rattle.cr_making.specs.Making.{Making, nothing, ◌▸◌, wrapped, leaf, using}
+use Rattle.cr_making.specs.Part.{Part, Head, NoHead, Called, Element, Variable, own_of, each, is_there, terms, held, held_block, line, statements_of, statements, union, held_union}
+use Rattle.cr_making.specs.Terms as t
 use Rattle.cr_lowering.proofs.Grows.{parameter_slot}
 use Rattle.cr_lowering.proofs.Fresh.{opens_none, NoParameter, pairs_two}
 use Rattle.cr_lowering.proofs.Good.{Good, Keeps, Always, always_keeps, good_where, good_as, good_nothing, good_join, good_wrapped, good_leaf, knows_plain, knows_name, knows_local, knows_text, good_using, HasName, HasText, Sees, MaySee, SeesRun, keeps_both, keeps_name, keeps_seen_run, named_does, literal_does, found_does, passed_does, Goods, good_many, good_none, good_all, good_one_many, good_all_pairs, good_nil, good_sequence, term_many, term_alone, good_nest_left, Term}

@@ -13,8 +13,8 @@ use Rattle.cr_core.specs.declared.form.Local.{Local}
 use Rattle.cr_core.specs.declared.form.ScopeId.{ScopeId}
 use Rattle.cr_core.specs.declared.form.TextId.{TextId}
 use Rattle.cr_core.specs.Tree.{names_of, text_of, local_of}
-use Rattle.cr_rewrite.specs.Naming.{State, named, literal, declared}
-use Rattle.cr_rewrite.specs.declared.naming.Opened.{Opened}
+use Rattle.cr_making.specs.Naming.{State, named, literal, declared}
+use Rattle.cr_making.specs.declared.naming.Opened.{Opened}
 
 abbrev pub Slotted : Type 0
 Slotted = List (Option NameId)

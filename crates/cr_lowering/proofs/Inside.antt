@@ -12,9 +12,9 @@ use Rattle.cr_core.specs.Core.{Core, one}
 use Rattle.cr_core.specs.Arena.{Opening, Opens, opening}
 use Rattle.cr_core.specs.Shape as sh
 use Rattle.cr_core.specs.Shape.{Role, role, Portion, portions, Are, Fits, where_told}
-use Rattle.cr_rewrite.specs.declared.naming.Opened.{Opened}
-use Rattle.cr_rewrite.specs.Naming.{State, Given, fresh_scope, with_slots, settled, left_by, left}
-use Rattle.cr_rewrite.specs.Making.{Making, gives, nothing, ◌▸◌, wrapped, scoped, apart}
+use Rattle.cr_making.specs.declared.naming.Opened.{Opened}
+use Rattle.cr_making.specs.Naming.{State, Given, fresh_scope, with_slots, settled, left_by, left}
+use Rattle.cr_making.specs.Making.{Making, gives, nothing, ◌▸◌, wrapped, scoped, apart}
 use Rattle.cr_lowering.proofs.Grows.{Slotted, Frame, frame, frames, AreWider, wider_refl, AreNamed, AreOpen, open_more, IsState, Extends, KnowsForm, knows_more, get_push}
 use Rattle.cr_lowering.proofs.Fresh.{slots_at, frame_at, frames_in, sees_out, OpensWell, Known, known_more, OpensAll, all_opened, ParametersFrom, parameters_join, NoParameter, no_parameters, count, count_join}
 use Rattle.cr_lowering.proofs.Told.{scope_in, ToldIn, InSome, InEnded, NamedSlot, none_bears, ended_push, OldOrTold}

@@ -14,7 +14,7 @@ use Rattle.cr_core.specs.Standing.{Stands}
 use Rattle.cr_core.specs.Tree.{Contents, IsCore}
 use Rattle.cr_core.proofs.Standing.{rows_stand}
 use Rattle.cr_rewrite.specs.declared.rewritten.Rewritten.{Rewritten}
-use Rattle.cr_rewrite.specs.Naming.{settled}
+use Rattle.cr_making.specs.Naming.{settled}
 use Rattle.cr_rewrite.specs.Whole.{made, IsRewriting}
 use Rattle.cr_lowering.specs.Blank.{blank}
 use Rattle.cr_lowering.specs.Lowering.{slot_names, IsLowering}

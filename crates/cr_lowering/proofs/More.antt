@@ -11,17 +11,17 @@ use Rattle.cr_core.specs.declared.form.ScopeId.{ScopeId}
 use Rattle.cr_core.specs.Arena.{opening}
 use Rattle.cr_core.specs.Shape as sh
 use Rattle.cr_core.specs.Shape.{Role, role, Portion, portions, Fits, where_told}
-use Rattle.cr_rewrite.specs.declared.naming.Opened.{Opened}
-use Rattle.cr_rewrite.specs.declared.words.Operation.{Operation}
-use Rattle.cr_rewrite.specs.declared.words.Operation.TheVariants.{Send, Receive, ReceiveOrNil, NoOperation}
-use Rattle.cr_rewrite.specs.Words.{operation_of, assigned_operator, setter, variable}
-use Rattle.cr_rewrite.specs.Naming.{State, named, declared, target, found, fresh, later_local, with_parameters}
-use Rattle.cr_rewrite.specs.Making.{Making, nothing, ◌▸◌, wrapped, leaf, using, apart, all}
-use Rattle.cr_rewrite.specs.Part.{Part, Head, NoHead, Called, Element, Variable, each, is_there, line, statements_of, statements, members_of, union, held_union}
-use Rattle.cr_rewrite.specs.Terms as t
-use Rattle.cr_rewrite.specs.Control as c
-use Rattle.cr_rewrite.specs.Assigning as a
-use Rattle.cr_rewrite.specs.Declaring as d
+use Rattle.cr_making.specs.declared.naming.Opened.{Opened}
+use Rattle.cr_making.specs.declared.words.Operation.{Operation}
+use Rattle.cr_making.specs.declared.words.Operation.TheVariants.{Send, Receive, ReceiveOrNil, NoOperation}
+use Rattle.cr_making.specs.Words.{operation_of, assigned_operator, setter, variable}
+use Rattle.cr_making.specs.Naming.{State, named, declared, target, found, fresh, later_local, with_parameters}
+use Rattle.cr_making.specs.Making.{Making, nothing, ◌▸◌, wrapped, leaf, using, apart, all}
+use Rattle.cr_making.specs.Part.{Part, Head, NoHead, Called, Element, Variable, each, is_there, line, statements_of, statements, members_of, union, held_union}
+use Rattle.cr_making.specs.Terms as t
+use Rattle.cr_making.specs.Control as c
+use Rattle.cr_making.specs.Assigning as a
+use Rattle.cr_making.specs.Declaring as d
 use Rattle.cr_lowering.proofs.Grows.{frame, frames, KnowsForm}
 use Rattle.cr_lowering.proofs.Fresh.{NoParameter}
 use Rattle.cr_lowering.proofs.Told.{scope_in, ToldIn, told_right}

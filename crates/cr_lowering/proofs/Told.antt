@@ -12,8 +12,8 @@ use Rattle.cr_core.specs.declared.row.Within.{Within}
 use Rattle.cr_core.specs.Core.{Core, none, node, one, size, ◌⊕◌}
 use Rattle.cr_core.specs.Arena.{Opening, Opens, Turns, Plain, opening, inside_opening, inside, starts}
 use Rattle.cr_core.specs.Standing.{Stands}
-use Rattle.cr_rewrite.specs.declared.naming.Opened.{Opened}
-use Rattle.cr_rewrite.specs.Naming.{State, declared, declared_times}
+use Rattle.cr_making.specs.declared.naming.Opened.{Opened}
+use Rattle.cr_making.specs.Naming.{State, declared, declared_times}
 use Rattle.cr_lowering.specs.Laws.{Tells, IsTold}
 use Rattle.cr_lowering.proofs.Grows.{Slotted}
 use Rattle.cr_lowering.proofs.Fresh.{opens_none}

@@ -9,8 +9,8 @@ use Rattle.cr_core.specs.declared.row.Row.{Row}
 use Rattle.cr_core.specs.declared.scope.Scope.{Scope}
 use Rattle.cr_core.specs.declared.scope.Slot.{Slot}
 use Rattle.cr_core.specs.Tree.{Contents, local_of, IsLocal}
-use Rattle.cr_rewrite.specs.declared.naming.Opened.{Opened}
-use Rattle.cr_rewrite.specs.Naming.{State}
+use Rattle.cr_making.specs.declared.naming.Opened.{Opened}
+use Rattle.cr_making.specs.Naming.{State}
 
 -- each local that a row names is one of a scope that is open there, and has a slot of it
 abbrev pub LocalsInRange : Contents → Type 0

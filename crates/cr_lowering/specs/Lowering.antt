@@ -6,7 +6,7 @@ use Rattle.cr_core.specs.declared.scope.Scope.{Scope}
 use Rattle.cr_core.specs.declared.scope.Slot.{Slot}
 use Rattle.cr_core.specs.Arena.{rows as rows_of}
 use Rattle.cr_core.specs.Tree.{Contents}
-use Rattle.cr_rewrite.specs.Naming.{settled}
+use Rattle.cr_making.specs.Naming.{settled}
 use Rattle.cr_rewrite.specs.Whole.{made}
 
 -- the names of a scope's locals, slot by slot

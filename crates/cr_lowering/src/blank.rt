@@ -4,7 +4,7 @@ ghost use Rattle.cr_lowering.specs.Blank as spec;
 
 use cr_base::{NameId, NoMemory, NodeId};
 use cr_core::{Listed, Scope, ScopeKind, Slot};
-use cr_rewrite::Slots;
+use cr_making::Slots;
 use std::alloc::Global;
 
 fn free_slots(alloc: Global, names: &[Option<NameId>]) -> Result<Vec<Slot>, NoMemory>

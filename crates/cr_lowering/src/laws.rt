@@ -4,7 +4,7 @@ ghost use Rattle.cr_base.specs.declared.ids.NameId.{NameId};
 ghost use Rattle.cr_grammar.specs.declared.tree.Tree.{Tree};
 ghost use Rattle.cr_core.specs.declared.form.Local.{Local};
 ghost use Rattle.cr_core.specs.Tree.{Contents, IsCore};
-ghost use Rattle.cr_rewrite.specs.Naming.{State, resolved};
+ghost use Rattle.cr_making.specs.Naming.{State, resolved};
 ghost use Rattle.cr_lowering.specs.Laws.{LocalsInRange, NamesOnce, NamedAreTold, IsDeclared};
 ghost use Rattle.cr_lowering.specs.Lowering.{IsLowering};
 

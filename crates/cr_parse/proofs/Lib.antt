@@ -2,6 +2,8 @@ pub mod Answered
 pub mod Called
 pub mod Heads
 pub mod Levels
+pub mod Named
 pub mod Parts
 pub mod Paths
 pub mod Rest
+pub mod Values

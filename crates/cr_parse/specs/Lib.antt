@@ -4,6 +4,7 @@ pub mod Calls
 pub mod Levels
 pub mod Links
 pub mod Literals
+pub mod Named
 pub mod Parts
 pub mod Primaries
 pub mod Rest

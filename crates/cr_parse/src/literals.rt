@@ -15,7 +15,7 @@ use cr_bodies::Item;
 use cr_grammar::{Tree, Wanted, Word};
 use cr_readers::{Cursor, ParseFault};
 use cr_syntax::{TokenLook, TokenText};
-use cr_words::{first_text, last_text, middle_text, number, separators, whole_text};
+use cr_words::{add, first_text, last_text, middle_text, number, separators, whole_text};
 use sqlite_items::{Boxed, Items};
 use std::alloc::Global;
 
@@ -87,9 +87,11 @@ impl<
     {
         let text = middle_text(self.parser.alloc, cursor)?;
         found.texts.push(text.text)?;
-        found
-            .inserted
-            .push(self.inserted(cursor, free)?.into_inner())?;
+        add(
+            self.parser.alloc,
+            &mut found.inserted,
+            self.inserted(cursor, free)?.into_inner(),
+        )?;
         Ok(found)
     }
 
@@ -129,9 +131,11 @@ impl<
             inserted: Items::new(self.parser.alloc),
         };
         found.texts.push(first.text)?;
-        found
-            .inserted
-            .push(self.inserted(cursor, free)?.into_inner())?;
+        add(
+            self.parser.alloc,
+            &mut found.inserted,
+            self.inserted(cursor, free)?.into_inner(),
+        )?;
         let mut found = self.parts(cursor, free, found)?;
         let last = last_text(self.parser.alloc, cursor)?;
         found.texts.push(last.text)?;

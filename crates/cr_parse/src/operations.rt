@@ -5,16 +5,19 @@ ghost use Rattle.cr_parse.specs.Levels as levels;
 ghost use Rattle.cr_readers.specs.Cursor.{state_of};
 ghost use Rattle.cr_readers.specs.Descent.{read};
 ghost use Rattle.cr_readers.specs.Operations as operations;
-ghost use Rattle.cr_readers.specs.Reader.{and_then, pure, with_last};
+ghost use Rattle.cr_readers.specs.Reader.{and_then, passes, pure, with_last};
 ghost use Rattle.cr_readers.specs.Reads.{Reads};
 ghost use Rattle.cr_words.specs.Gives.{Gives};
-ghost use Rattle.std.specs.Prelude.{◌≡◌};
+ghost use Rattle.cr_words.specs.Tables.{of_some_level};
+ghost use Rattle.std.specs.Prelude.{◌≡◌, ◌<◌, IsTrue, false};
 
 use crate::expressions::Expressions;
 use cr_grammar::{Tree, Unary, Wanted};
 use cr_readers::{Cursor, Operator, ParseFault};
 use cr_syntax::TokenLook;
-use cr_words::{Level, is_name, no_sign, operator_at, sees_operator, separators, whole};
+use cr_words::{
+    Level, is_name, no_sign, operator_at, sees_any_operator, sees_operator, separators, whole,
+};
 use sqlite_items::Boxed;
 use std::alloc::Global;
 
@@ -111,8 +114,17 @@ impl<
         Ok((tree, cursor.before()))
     }
 
+    /// Whether it is sure that nothing goes on behind an operand: no operator comes, and a turn is left to find that.
+    fn ends(&self, cursor: &Cursor<'_>) -> bool
+        ensures turns { IsTrue result → 0 < self.now.parser.turns }
+        ensures none { IsTrue result → passes of_some_level (state_of cursor.now).rest ≡ false }
+    {
+        self.parser.turns > 0 && !sees_any_operator(cursor)
+    }
+
     /// An operand of an operator of this level, with the operations of tighter levels.
     #[cycle(operations)]
+    #[tactic(auto, using(crate::proofs::Levels::nothing_behind))]
     fn operand(
         &self,
         cursor: &mut Cursor<'_>,
@@ -126,6 +138,9 @@ impl<
             None => self.unary_last(cursor, free),
             Some(tighter) => {
                 let first = self.unary_last(cursor, free)?;
+                if self.ends(cursor) {
+                    return Ok(first);
+                }
                 self.behind(cursor, free, tighter, first)
             }
         }
@@ -242,6 +257,9 @@ impl<
         requires { Nests self.now.parser.turns self.now.parser.deep (F.pre self.now.parser.inside) (F.post self.now.parser.inside) }
         ensures { Reads (and_then (operations.or_from self.now.parser.turns (read self.now.parser.turns self.now.parser.deep) self.now.within free left (state_of cursor.old)) (λ y. pure y.0)) result (state_of cursor.new) }
     {
+        if self.ends(cursor) {
+            return Ok(left.0);
+        }
         let (tree, _) = self.behind(cursor, free, Level::Or, left)?;
         Ok(tree)
     }

@@ -1,24 +1,26 @@
 //! What stands at the head of a postfix, by its first token.
 
-ghost use Rattle.std.specs.Prelude.{◌≡◌};
+ghost use Rattle.std.specs.Prelude.{◌≡◌, IsTrue, false};
 ghost use Rattle.cr_syntax.specs.declared.look.TokenLook.TheVariants as l;
 ghost use Rattle.cr_grammar.specs.Wanted as wanted;
 ghost use Rattle.cr_readers.specs.Cursor.{state_of};
 ghost use Rattle.cr_readers.specs.Descent.{read};
+ghost use Rattle.cr_readers.specs.Goes as goes;
 ghost use Rattle.cr_readers.specs.Lists as lists;
 ghost use Rattle.cr_readers.specs.Operand as operand;
 ghost use Rattle.cr_readers.specs.Primaries as primaries;
 ghost use Rattle.cr_readers.specs.Reader as reader;
 ghost use Rattle.cr_readers.specs.Reads.{Reads};
 ghost use Rattle.cr_bodies.specs.Nests.{Nests};
+ghost use Rattle.cr_parse.specs.Named as behind;
 ghost use Rattle.cr_parse.specs.Primaries as classes;
 
 use crate::expressions::Expressions;
 use crate::literals::word_node;
-use cr_grammar::{Tree, Wanted, Within};
+use cr_grammar::{Tree, Wanted, Within, Word};
 use cr_readers::{Cursor, Operand, ParseFault};
 use cr_syntax::TokenLook;
-use cr_words::{above, ident, instance_variable, named, separators, yielded};
+use cr_words::{above, begins_block, ident, instance_variable, named, separators, yielded};
 use sqlite_items::Boxed;
 use std::alloc::Global;
 
@@ -69,20 +71,45 @@ fn is_name(look: TokenLook) -> bool
     )
 }
 
+/// Whether neither parentheses nor a block open behind a name.
+fn is_alone(cursor: &Cursor<'_>, free: bool) -> bool
+    ensures parentheses { IsTrue result → reader.passes (reader.tight_seen l.OpenParenthesis) (state_of cursor.now).rest ≡ false }
+    ensures block { IsTrue result → reader.passes (goes.begins_block free) (state_of cursor.now).rest ≡ false }
+{
+    !cursor.sees_tight(TokenLook::OpenParenthesis) && !begins_block(cursor, free)
+}
+
 impl<
     F: Fn(Global, usize, usize, Wanted, &mut Cursor<'_>) -> Result<Boxed<Tree>, ParseFault>,
 > Expressions<F> {
+    /// The arguments in parentheses and the block behind a name. Most names stand alone.
+    #[tactic(auto, unfolding(crate::specs::Named::behind_name), using(crate::proofs::Named::stays_alone))]
+    fn behind_name(
+        &self,
+        cursor: &mut Cursor<'_>,
+        free: bool,
+        name: Word,
+    ) -> Result<Operand, ParseFault>
+        requires { Nests self.now.parser.turns self.now.parser.deep (F.pre self.now.parser.inside) (F.post self.now.parser.inside) }
+        ensures { Reads (behind.behind_name self.now.parser.turns (read self.now.parser.turns self.now.parser.deep) self.now.within free name (state_of cursor.old)) result (state_of cursor.new) }
+    {
+        if is_alone(cursor, free) {
+            return Ok(Operand::Name(name));
+        }
+        let arguments = self.parser.arguments(cursor, self.within)?;
+        let block = self.parser.maybe_block(cursor, self.within, free)?;
+        named(self.parser.alloc, name, arguments, block)
+    }
+
     /// A name with its arguments in parentheses and its block.
-    #[tactic(auto, unfolding(cr_readers::specs::Primaries::name))]
+    #[tactic(auto, unfolding(cr_readers::specs::Primaries::name, crate::specs::Named::behind_name))]
     fn name(&self, cursor: &mut Cursor<'_>, free: bool) -> Result<Operand, ParseFault>
         requires { Nests self.now.parser.turns self.now.parser.deep (F.pre self.now.parser.inside) (F.post self.now.parser.inside) }
         ensures { Reads (primaries.name self.now.parser.turns (read self.now.parser.turns self.now.parser.deep) self.now.within free (state_of cursor.old)) result (state_of cursor.new) }
     {
         let name = ident(self.parser.alloc, cursor)?;
         cursor.grow(name.at)?;
-        let arguments = self.parser.arguments(cursor, self.within)?;
-        let block = self.parser.maybe_block(cursor, self.within, free)?;
-        named(self.parser.alloc, name, arguments, block)
+        self.behind_name(cursor, free, name)
     }
 
     /// `yield` with its arguments in parentheses, in a method.

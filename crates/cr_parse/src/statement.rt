@@ -23,7 +23,7 @@ use cr_bodies::{Item, Lines};
 use cr_grammar::{Assignment, Tree, Wanted, Word};
 use cr_readers::{Cursor, Operand, ParseFault};
 use cr_syntax::TokenLook;
-use cr_words::{begins_left, whole};
+use cr_words::{add, begins_left, whole};
 use sqlite_items::{Boxed, Items};
 use std::alloc::Global;
 
@@ -59,7 +59,7 @@ fn conditional(
     ensures { Gives (Tree.If at unless condition (tree ∷ []) [] None) result }
 {
     let mut body = Items::new(alloc);
-    body.push(tree.into_inner())?;
+    add(alloc, &mut body, tree.into_inner())?;
     let conditional = Tree::If {
         at,
         unless,

@@ -44,6 +44,18 @@ fn write(out: &mut Vec<u8>, tree: &Tree, level: usize, depth: usize) -> Result<(
 fn write_part(out: &mut Vec<u8>, part: Part, level: usize, depth: usize) -> Result<(), NoMemory>
     ensures { OnOk result (Writes (part_pieces level part.entry) out.old.items out.new.items) }
 {
+    if let Part::Nothing = part {
+        return Ok(());
+    }
+    if let Part::Space = part {
+        return put_blank(out, 1);
+    }
+    if let Part::Word(look) = part {
+        return put_look(out, look);
+    }
+    if let Part::Name(name) = part {
+        return put_name(out, name);
+    }
     let steps = steps_of(part);
     for step in steps.iter() {
         write_step(out, *step, level, depth)?;

@@ -8,14 +8,14 @@ use Rattle.cr_core.specs.declared.form.Form.TheVariants as f
 use Rattle.cr_core.specs.declared.row.Event.{Event}
 use Rattle.cr_core.specs.declared.row.Event.TheVariants.{Open, Close}
 use Rattle.cr_core.specs.Core.{stream}
-use Rattle.cr_rewrite.specs.declared.maker.Maker.{Maker}
-use Rattle.cr_rewrite.specs.Naming.{State, state_of}
-use Rattle.cr_rewrite.specs.Making.{Making, placed, wrapped, ◌▸◌, nest_left}
-use Rattle.cr_rewrite.specs.Made.{Makes, Puts, Begins}
+use Rattle.cr_making.specs.declared.maker.Maker.{Maker}
+use Rattle.cr_making.specs.Naming.{State, state_of}
+use Rattle.cr_making.specs.Making.{Making, placed, wrapped, ◌▸◌, nest_left}
+use Rattle.cr_making.specs.Made.{Makes, Puts, Begins}
 use Rattle.cr_rewrite.specs.Left.{twice, times, followed, Opens, Follows}
-use Rattle.cr_rewrite.specs.Table.{part, parts}
-use Rattle.cr_rewrite.specs.Terms as t
-use Rattle.cr_rewrite.proofs.Done.{stream-join, later_events, later_state}
+use Rattle.cr_making.specs.Table.{part, parts}
+use Rattle.cr_making.specs.Terms as t
+use Rattle.cr_making.proofs.Done.{stream-join, later_events, later_state}
 
 times-last : (n : ℕ) (e : Event) (es : List Event) → times n e ++ e ∷ es ≡ e ∷ (times n e ++ es)
 times-last zero e es = refl

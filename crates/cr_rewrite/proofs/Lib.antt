@@ -1,10 +1,2 @@
-pub mod Done
-pub mod Alone
-pub mod Nests
-pub mod Found
-pub mod Loops
 pub mod Left
-pub mod Tables
-pub mod Elements
-pub mod Names
 pub mod Whole

@@ -10,15 +10,15 @@ use Rattle.cr_core.specs.declared.row.Event.TheVariants.{Close}
 use Rattle.cr_core.specs.declared.row.Row.{Row}
 use Rattle.cr_core.specs.Core.{Core, stream}
 use Rattle.cr_core.specs.Arena.{rows as rows_of}
-use Rattle.cr_rewrite.specs.declared.maker.Maker.{Maker}
-use Rattle.cr_rewrite.specs.declared.slots.Slots.{Slots}
-use Rattle.cr_rewrite.specs.Naming.{State, state_of, settled}
-use Rattle.cr_rewrite.specs.Making.{Making, Ahead, ahead, in_prelude, nest, sequence}
-use Rattle.cr_rewrite.specs.Made.{Makes, Nests, Begins, Puts, Turns, closes}
-use Rattle.cr_rewrite.specs.Part.{line, members_of, statements_of}
-use Rattle.cr_rewrite.specs.Table.{part, parts}
+use Rattle.cr_making.specs.declared.maker.Maker.{Maker}
+use Rattle.cr_making.specs.declared.slots.Slots.{Slots}
+use Rattle.cr_making.specs.Naming.{State, state_of, settled}
+use Rattle.cr_making.specs.Making.{Making, Ahead, ahead, in_prelude, nest, sequence}
+use Rattle.cr_making.specs.Made.{Makes, Nests, Begins, Puts, Turns, closes}
+use Rattle.cr_making.specs.Part.{line, members_of, statements_of}
+use Rattle.cr_making.specs.Table.{part, parts}
 use Rattle.cr_rewrite.specs.Whole.{first_scope, program, begin, made, IsRewriting}
-use Rattle.cr_rewrite.proofs.Done.{join_made, wrap_made, prelude_made, nests_none, nests_more, nest_made, made_as, later_events, later_state}
+use Rattle.cr_making.proofs.Done.{join_made, wrap_made, prelude_made, nests_none, nests_more, nest_made, made_as, later_events, later_state}
 
 abbrev pub prelude_line : Making → Ahead
 prelude_line m = ahead 0 (in_prelude m)

@@ -4,9 +4,9 @@ use Rattle.cr_core.specs.declared.form.Form.{Form}
 use Rattle.cr_core.specs.declared.row.Event.{Event}
 use Rattle.cr_core.specs.declared.row.Event.TheVariants.{Open, Close}
 use Rattle.cr_core.specs.Core.{stream}
-use Rattle.cr_rewrite.specs.Naming.{State, Given, state_of}
-use Rattle.cr_rewrite.specs.Making.{Making, placed}
-use Rattle.cr_rewrite.specs.declared.maker.Maker.{Maker}
+use Rattle.cr_making.specs.Naming.{State, Given, state_of}
+use Rattle.cr_making.specs.Making.{Making, placed}
+use Rattle.cr_making.specs.declared.maker.Maker.{Maker}
 
 abbrev pub twice : ℕ → ℕ
 twice zero = zero

@@ -5,10 +5,10 @@ use Rattle.cr_core.specs.declared.form.Form.TheVariants as f
 use Rattle.cr_core.specs.declared.form.ScopeId.{ScopeId}
 use Rattle.cr_core.specs.Core.{Core}
 use Rattle.cr_core.specs.Arena.{rows as rows_of}
-use Rattle.cr_rewrite.specs.Naming.{State, Given, settled}
-use Rattle.cr_rewrite.specs.Making.{Making, ◌▸◌, wrapped, in_prelude, ahead, nest, sequence}
-use Rattle.cr_rewrite.specs.Part.{Part}
-use Rattle.cr_rewrite.specs.Table.{part}
+use Rattle.cr_making.specs.Naming.{State, Given, settled}
+use Rattle.cr_making.specs.Making.{Making, ◌▸◌, wrapped, in_prelude, ahead, nest, sequence}
+use Rattle.cr_making.specs.Part.{Part}
+use Rattle.cr_making.specs.Table.{part}
 use Rattle.cr_rewrite.specs.declared.rewritten.Rewritten.{Rewritten}
 
 abbrev pub first_scope : ScopeId

@@ -2,25 +2,21 @@
 
 ghost use Rattle.std.specs.Prelude.{◌≡◌, map, length, [], OnOk, IfOk};
 ghost use Rattle.cr_core.specs.declared.form.Form.TheVariants as f;
-ghost use Rattle.cr_rewrite.specs.Made.{Makes, Nests};
-ghost use Rattle.cr_rewrite.specs.Making.{Making, ahead, in_prelude};
-ghost use Rattle.cr_rewrite.specs.Naming as n;
-ghost use Rattle.cr_rewrite.specs.Part.{members_of, statements_of};
-ghost use Rattle.cr_rewrite.specs.Table.{part, parts};
-ghost use Rattle.cr_rewrite.specs.View.{said_line};
-ghost use Rattle.cr_rewrite.specs.declared.view.View.TheVariants as v;
+ghost use Rattle.cr_making.specs.Made.{Makes, Nests};
+ghost use Rattle.cr_making.specs.Making.{Making, ahead, in_prelude};
+ghost use Rattle.cr_making.specs.Naming as n;
+ghost use Rattle.cr_making.specs.Part.{members_of, statements_of};
+ghost use Rattle.cr_making.specs.Table.{part, parts};
+ghost use Rattle.cr_making.specs.View.{said_line};
+ghost use Rattle.cr_making.specs.declared.view.View.TheVariants as v;
 ghost use Rattle.cr_rewrite.specs.Whole.{IsRewriting, program, begin};
 
-use crate::lists::said;
-use crate::maker::Maker;
-use crate::naming::{Naming, Opened, settle};
-use crate::rewrite::{Rewriter, rewrite};
+use crate::rewrite::rewrite;
 use crate::rewritten::Rewritten;
-use crate::slots::Slots;
-use crate::view::View;
 use cr_base::NoMemory;
 use cr_core::{Form, ScopeId, link};
 use cr_grammar::Tree;
+use cr_making::{Maker, Naming, Opened, Rewriter, Slots, View, said, settle};
 use cr_syntax::Names;
 use std::alloc::Global;
 

@@ -1,29 +1,22 @@
 //! The core form of each construct, as a walk round it.
 
 ghost use Rattle.std.specs.Prelude.{OnOk};
-ghost use Rattle.cr_rewrite.specs.Made.{Makes};
-ghost use Rattle.cr_rewrite.specs.Knot.{Rewrites};
-ghost use Rattle.cr_rewrite.specs.View.{viewed};
-ghost use Rattle.cr_rewrite.specs.Table.{part, own};
+ghost use Rattle.cr_making.specs.Made.{Makes};
+ghost use Rattle.cr_making.specs.Knot.{Rewrites};
+ghost use Rattle.cr_making.specs.View.{viewed};
+ghost use Rattle.cr_making.specs.Table.{part, own};
 
-use crate::maker::Maker;
-use crate::view::View;
+use crate::terms::Terms;
 use cr_base::NoMemory;
+use cr_constructs::Constructs;
 use cr_core::Form;
 use cr_grammar::Tree;
+use cr_making::{Maker, Rewriter, View};
 
-/// The rewriting of a construct over the rewriting of what nests in it, so that each rule is proved by itself.
-#[derive(Clone, Copy)]
-pub struct Rewriter<F> {
-    /// How many more constructs may stand in one another.
-    pub fuel: usize,
-    pub rewrite: F,
-}
-
-impl<F: Fn(&mut Maker, usize, View, &Tree) -> Result<(), NoMemory>> Rewriter<F> {
+impl<F: Fn(&mut Maker, usize, View, &Tree) -> Result<(), NoMemory>> Terms<F> {
     /// What the construct is as a term.
     fn own(&self, maker: &mut Maker, tree: &Tree) -> Result<(), NoMemory>
-        requires { Rewrites self.now.fuel (F.pre self.now.rewrite) (F.post self.now.rewrite) }
+        requires { Rewrites self.now.constructs.rewriter.fuel (F.pre self.now.constructs.rewriter.rewrite) (F.post self.now.constructs.rewriter.rewrite) }
         ensures { OnOk result (Makes (own tree.now) maker.old maker.new) }
     {
         match tree {
@@ -91,28 +84,32 @@ impl<F: Fn(&mut Maker, usize, View, &Tree) -> Result<(), NoMemory>> Rewriter<F> 
                 body,
                 others,
                 otherwise,
-            } => self.conditional(maker, *at, *unless, condition, body, others, otherwise),
+            } => self
+                .constructs
+                .conditional(maker, *at, *unless, condition, body, others, otherwise),
             Tree::While {
                 at,
                 until,
                 condition,
                 body,
-            } => self.repeat(maker, *at, *until, condition, body),
-            Tree::Case { at, value, clauses } => self.case(maker, *at, value, clauses),
+            } => self.constructs.repeat(maker, *at, *until, condition, body),
+            Tree::Case { at, value, clauses } => self.constructs.case(maker, *at, value, clauses),
             Tree::Select {
                 at,
                 clauses,
                 otherwise,
-            } => self.select(maker, *at, clauses, otherwise),
+            } => self.constructs.select(maker, *at, clauses, otherwise),
             Tree::Assign {
                 at,
                 target,
                 operator,
                 operator_at,
                 value,
-            } => self.assign(maker, *at, target, *operator, *operator_at, value),
-            Tree::Return { at, value } => self.jump(maker, Form::Return, *at, value),
-            Tree::Next { at, value } => self.jump(maker, Form::Next, *at, value),
+            } => self
+                .constructs
+                .assign(maker, *at, target, *operator, *operator_at, value),
+            Tree::Return { at, value } => self.constructs.jump(maker, Form::Return, *at, value),
+            Tree::Next { at, value } => self.constructs.jump(maker, Form::Next, *at, value),
             Tree::Break { at } => maker.leaf(Form::Break, *at),
             Tree::Statements { .. } => maker.leaf(Form::Nil, 0),
             Tree::Union { .. } => maker.leaf(Form::Nil, 0),
@@ -135,25 +132,25 @@ impl<F: Fn(&mut Maker, usize, View, &Tree) -> Result<(), NoMemory>> Rewriter<F> 
 
     /// What the construct is in its place.
     fn construct(&self, maker: &mut Maker, view: View, tree: &Tree) -> Result<(), NoMemory>
-        requires { Rewrites self.now.fuel (F.pre self.now.rewrite) (F.post self.now.rewrite) }
+        requires { Rewrites self.now.constructs.rewriter.fuel (F.pre self.now.constructs.rewriter.rewrite) (F.post self.now.constructs.rewriter.rewrite) }
         ensures { OnOk result (Makes (viewed view (part tree.now)) maker.old maker.new) }
     {
         match view {
             View::Term => self.own(maker, tree),
-            View::Member => self.members(maker, tree),
+            View::Member => self.constructs.members(maker, tree),
             View::Atoms => self.atoms(maker, tree),
             View::Class => self.class_of(maker, tree),
-            View::Parameter => self.parameter_of(maker, tree),
-            View::Fields => self.fields(maker, tree),
-            View::Kept => self.kept_of(maker, tree),
+            View::Parameter => self.constructs.parameter_of(maker, tree),
+            View::Fields => self.constructs.fields(maker, tree),
+            View::Kept => self.constructs.kept_of(maker, tree),
             View::Union(at) => self.union(maker, at, tree),
             View::Block(at) => self.block_of(maker, at, tree),
-            View::Branch => self.branch_of(maker, tree),
-            View::Arm(get) => self.arm_of(maker, get, tree),
-            View::Clause => self.clause(maker, tree),
+            View::Branch => self.constructs.branch_of(maker, tree),
+            View::Arm(get) => self.constructs.arm_of(maker, get, tree),
+            View::Clause => self.constructs.clause(maker, tree),
             View::Pair => self.pair(maker, tree),
             View::PairTypes(at) => self.pair_types(maker, at, tree),
-            View::Accessor(property) => self.accessor_of(maker, property, tree),
+            View::Accessor(property) => self.constructs.accessor_of(maker, property, tree),
         }
     }
 }
@@ -165,9 +162,10 @@ pub fn rewrite(maker: &mut Maker, fuel: usize, view: View, tree: &Tree) -> Resul
     if fuel == 0 {
         return Err(NoMemory);
     }
-    Rewriter {
+    let rewriter = Rewriter {
         fuel: fuel - 1,
         rewrite,
-    }
-    .construct(maker, view, tree)
+    };
+    let constructs = Constructs { rewriter };
+    Terms { constructs }.construct(maker, view, tree)
 }

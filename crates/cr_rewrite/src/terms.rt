@@ -2,36 +2,39 @@
 
 ghost use Rattle.std.specs.Prelude.{[], false, OnOk};
 ghost use Rattle.cr_core.specs.declared.form.Form.TheVariants as f;
-ghost use Rattle.cr_rewrite.specs.Made.{Makes};
-ghost use Rattle.cr_rewrite.specs.Knot.{Rewrites};
-ghost use Rattle.cr_rewrite.specs.Part as p;
-ghost use Rattle.cr_rewrite.specs.Terms as t;
-ghost use Rattle.cr_rewrite.specs.Table.{part, parts, maybe_part, own};
+ghost use Rattle.cr_making.specs.Made.{Makes};
+ghost use Rattle.cr_making.specs.Knot.{Rewrites};
+ghost use Rattle.cr_making.specs.Part as p;
+ghost use Rattle.cr_making.specs.Terms as t;
+ghost use Rattle.cr_making.specs.Table.{part, parts, maybe_part, own};
 
-use crate::forms::{
-    array_form, bare_form, call_form, hash_form, is_there, new_form, sent_form, spawn_form,
-};
-use crate::maker::Maker;
-use crate::naming::later_local;
-use crate::rewrite::Rewriter;
-use crate::view::View;
-use crate::words::{Word, index_text, operator_text, word_of};
 use cr_base::{NameId, NoMemory};
+use cr_constructs::Constructs;
 use cr_core::{Form, Local};
 use cr_grammar::{Binary, Tree, Unary};
+use cr_making::{
+    Maker, View, Word, array_form, bare_form, call_form, hash_form, index_text, is_there, new_form,
+    operator_text, sent_form, spawn_form, word_of,
+};
 use cr_syntax::TokenText;
 use sqlite_items::{Boxed, Items};
 
-impl<F: Fn(&mut Maker, usize, View, &Tree) -> Result<(), NoMemory>> Rewriter<F> {
+/// The rewriting of terms, with that of the other constructs.
+#[derive(Clone, Copy)]
+pub struct Terms<F> {
+    pub constructs: Constructs<F>,
+}
+
+impl<F: Fn(&mut Maker, usize, View, &Tree) -> Result<(), NoMemory>> Terms<F> {
     pub fn text(&self, maker: &mut Maker, at: u32, text: &TokenText) -> Result<(), NoMemory>
-        requires { Rewrites self.now.fuel (F.pre self.now.rewrite) (F.post self.now.rewrite) }
+        requires { Rewrites self.now.constructs.rewriter.fuel (F.pre self.now.constructs.rewriter.rewrite) (F.post self.now.constructs.rewriter.rewrite) }
         ensures { OnOk result (Makes (t.text at text.now) maker.old maker.new) }
     {
         self.text_of(maker, at, text.as_str())
     }
 
     fn text_of(&self, maker: &mut Maker, at: u32, text: &str) -> Result<(), NoMemory>
-        requires { Rewrites self.now.fuel (F.pre self.now.rewrite) (F.post self.now.rewrite) }
+        requires { Rewrites self.now.constructs.rewriter.fuel (F.pre self.now.constructs.rewriter.rewrite) (F.post self.now.constructs.rewriter.rewrite) }
         ensures { OnOk result (Makes (t.text at text.now) maker.old maker.new) }
     {
         let text = maker.literal(text)?;
@@ -43,7 +46,7 @@ impl<F: Fn(&mut Maker, usize, View, &Tree) -> Result<(), NoMemory>> Rewriter<F> 
 
     /// A name alone: a local, or a call.
     fn name_alone(&self, maker: &mut Maker, at: u32, name: &TokenText) -> Result<(), NoMemory>
-        requires { Rewrites self.now.fuel (F.pre self.now.rewrite) (F.post self.now.rewrite) }
+        requires { Rewrites self.now.constructs.rewriter.fuel (F.pre self.now.constructs.rewriter.rewrite) (F.post self.now.constructs.rewriter.rewrite) }
         ensures { OnOk result (Makes (t.name_alone at name.now) maker.old maker.new) }
     {
         let id = maker.token_name(name)?;
@@ -60,7 +63,7 @@ impl<F: Fn(&mut Maker, usize, View, &Tree) -> Result<(), NoMemory>> Rewriter<F> 
         id: NameId,
         local: Option<Local>,
     ) -> Result<(), NoMemory>
-        requires { Rewrites self.now.fuel (F.pre self.now.rewrite) (F.post self.now.rewrite) }
+        requires { Rewrites self.now.constructs.rewriter.fuel (F.pre self.now.constructs.rewriter.rewrite) (F.post self.now.constructs.rewriter.rewrite) }
         ensures { OnOk result (Makes (t.local_or_alone at name.now id local) maker.old maker.new) }
     {
         match local {
@@ -70,7 +73,7 @@ impl<F: Fn(&mut Maker, usize, View, &Tree) -> Result<(), NoMemory>> Rewriter<F> 
     }
 
     fn alone(&self, maker: &mut Maker, at: u32, word: Word, id: NameId) -> Result<(), NoMemory>
-        requires { Rewrites self.now.fuel (F.pre self.now.rewrite) (F.post self.now.rewrite) }
+        requires { Rewrites self.now.constructs.rewriter.fuel (F.pre self.now.constructs.rewriter.rewrite) (F.post self.now.constructs.rewriter.rewrite) }
         ensures { OnOk result (Makes (t.alone_by word at id) maker.old maker.new) }
     {
         match word {
@@ -82,7 +85,7 @@ impl<F: Fn(&mut Maker, usize, View, &Tree) -> Result<(), NoMemory>> Rewriter<F> 
 
     /// `puts` alone.
     fn empty_line(&self, maker: &mut Maker, at: u32) -> Result<(), NoMemory>
-        requires { Rewrites self.now.fuel (F.pre self.now.rewrite) (F.post self.now.rewrite) }
+        requires { Rewrites self.now.constructs.rewriter.fuel (F.pre self.now.constructs.rewriter.rewrite) (F.post self.now.constructs.rewriter.rewrite) }
         ensures { OnOk result (Makes (t.empty_line at) maker.old maker.new) }
     {
         maker.open(Form::Puts, at)?;
@@ -99,7 +102,7 @@ impl<F: Fn(&mut Maker, usize, View, &Tree) -> Result<(), NoMemory>> Rewriter<F> 
         name: &TokenText,
         argument: &Tree,
     ) -> Result<(), NoMemory>
-        requires { Rewrites self.now.fuel (F.pre self.now.rewrite) (F.post self.now.rewrite) }
+        requires { Rewrites self.now.constructs.rewriter.fuel (F.pre self.now.constructs.rewriter.rewrite) (F.post self.now.constructs.rewriter.rewrite) }
         ensures { OnOk result (Makes (t.with_one_by word at name.now (part argument.now)) maker.old maker.new) }
     {
         match word {
@@ -117,11 +120,11 @@ impl<F: Fn(&mut Maker, usize, View, &Tree) -> Result<(), NoMemory>> Rewriter<F> 
         form: Form,
         argument: &Tree,
     ) -> Result<(), NoMemory>
-        requires { Rewrites self.now.fuel (F.pre self.now.rewrite) (F.post self.now.rewrite) }
+        requires { Rewrites self.now.constructs.rewriter.fuel (F.pre self.now.constructs.rewriter.rewrite) (F.post self.now.constructs.rewriter.rewrite) }
         ensures { OnOk result (Makes (t.around form at (part argument.now)) maker.old maker.new) }
     {
         maker.open(form, at)?;
-        self.one(maker, View::Term, argument)?;
+        self.constructs.rewriter.one(maker, View::Term, argument)?;
         maker.close()?;
         Ok(())
     }
@@ -133,12 +136,12 @@ impl<F: Fn(&mut Maker, usize, View, &Tree) -> Result<(), NoMemory>> Rewriter<F> 
         name: &TokenText,
         argument: &Tree,
     ) -> Result<(), NoMemory>
-        requires { Rewrites self.now.fuel (F.pre self.now.rewrite) (F.post self.now.rewrite) }
+        requires { Rewrites self.now.constructs.rewriter.fuel (F.pre self.now.constructs.rewriter.rewrite) (F.post self.now.constructs.rewriter.rewrite) }
         ensures { OnOk result (Makes (t.called at name.now false false (part argument.now).own) maker.old maker.new) }
     {
         let name = maker.token_name(name)?;
         maker.open(bare_form(name), at)?;
-        self.one(maker, View::Term, argument)?;
+        self.constructs.rewriter.one(maker, View::Term, argument)?;
         maker.close()?;
         Ok(())
     }
@@ -150,12 +153,12 @@ impl<F: Fn(&mut Maker, usize, View, &Tree) -> Result<(), NoMemory>> Rewriter<F> 
         name: &TokenText,
         arguments: &Items<Tree>,
     ) -> Result<(), NoMemory>
-        requires { Rewrites self.now.fuel (F.pre self.now.rewrite) (F.post self.now.rewrite) }
+        requires { Rewrites self.now.constructs.rewriter.fuel (F.pre self.now.constructs.rewriter.rewrite) (F.post self.now.constructs.rewriter.rewrite) }
         ensures { OnOk result (Makes (t.called at name.now false false (p.terms (parts arguments.now))) maker.old maker.new) }
     {
         let name = maker.token_name(name)?;
         maker.open(bare_form(name), at)?;
-        self.each(maker, View::Term, arguments)?;
+        self.constructs.rewriter.each(maker, View::Term, arguments)?;
         maker.close()?;
         Ok(())
     }
@@ -168,7 +171,7 @@ impl<F: Fn(&mut Maker, usize, View, &Tree) -> Result<(), NoMemory>> Rewriter<F> 
         name: &TokenText,
         arguments: &Items<Tree>,
     ) -> Result<(), NoMemory>
-        requires { Rewrites self.now.fuel (F.pre self.now.rewrite) (F.post self.now.rewrite) }
+        requires { Rewrites self.now.constructs.rewriter.fuel (F.pre self.now.constructs.rewriter.rewrite) (F.post self.now.constructs.rewriter.rewrite) }
         ensures { OnOk result (Makes (t.bare_call at name.now (parts arguments.now)) maker.old maker.new) }
     {
         match arguments.as_slice() {
@@ -187,14 +190,16 @@ impl<F: Fn(&mut Maker, usize, View, &Tree) -> Result<(), NoMemory>> Rewriter<F> 
         arguments: &Items<Tree>,
         block: &Option<Boxed<Tree>>,
     ) -> Result<(), NoMemory>
-        requires { Rewrites self.now.fuel (F.pre self.now.rewrite) (F.post self.now.rewrite) }
+        requires { Rewrites self.now.constructs.rewriter.fuel (F.pre self.now.constructs.rewriter.rewrite) (F.post self.now.constructs.rewriter.rewrite) }
         ensures { OnOk result (Makes (t.full_call at (maybe_part receiver.now) name.now (parts arguments.now) (maybe_part block.now)) maker.old maker.new) }
     {
         let name = maker.token_name(name)?;
         maker.open(call_form(name, receiver, block), at)?;
-        self.maybe(maker, View::Term, receiver)?;
-        self.each(maker, View::Term, arguments)?;
-        self.maybe(maker, View::Block(at), block)?;
+        self.constructs.rewriter.maybe(maker, View::Term, receiver)?;
+        self.constructs.rewriter.each(maker, View::Term, arguments)?;
+        self.constructs
+            .rewriter
+            .maybe(maker, View::Block(at), block)?;
         maker.close()?;
         Ok(())
     }
@@ -208,7 +213,7 @@ impl<F: Fn(&mut Maker, usize, View, &Tree) -> Result<(), NoMemory>> Rewriter<F> 
         arguments: &Items<Tree>,
         block: &Option<Boxed<Tree>>,
     ) -> Result<(), NoMemory>
-        requires { Rewrites self.now.fuel (F.pre self.now.rewrite) (F.post self.now.rewrite) }
+        requires { Rewrites self.now.constructs.rewriter.fuel (F.pre self.now.constructs.rewriter.rewrite) (F.post self.now.constructs.rewriter.rewrite) }
         ensures { OnOk result (Makes (t.call at (maybe_part receiver.now) name.now (parts arguments.now) (maybe_part block.now)) maker.old maker.new) }
     {
         if !is_there(receiver) && !is_there(block) {
@@ -225,13 +230,13 @@ impl<F: Fn(&mut Maker, usize, View, &Tree) -> Result<(), NoMemory>> Rewriter<F> 
         arguments: &Items<Tree>,
         question: bool,
     ) -> Result<(), NoMemory>
-        requires { Rewrites self.now.fuel (F.pre self.now.rewrite) (F.post self.now.rewrite) }
+        requires { Rewrites self.now.constructs.rewriter.fuel (F.pre self.now.constructs.rewriter.rewrite) (F.post self.now.constructs.rewriter.rewrite) }
         ensures { OnOk result (Makes (t.index at (part receiver.now) (parts arguments.now) question) maker.old maker.new) }
     {
         let name = maker.name(index_text(question))?;
         maker.open(sent_form(name), at)?;
-        self.term(maker, receiver)?;
-        self.each(maker, View::Term, arguments)?;
+        self.constructs.rewriter.term(maker, receiver)?;
+        self.constructs.rewriter.each(maker, View::Term, arguments)?;
         maker.close()?;
         Ok(())
     }
@@ -246,7 +251,7 @@ impl<F: Fn(&mut Maker, usize, View, &Tree) -> Result<(), NoMemory>> Rewriter<F> 
         left: &Boxed<Tree>,
         right: &Boxed<Tree>,
     ) -> Result<(), NoMemory>
-        requires { Rewrites self.now.fuel (F.pre self.now.rewrite) (F.post self.now.rewrite) }
+        requires { Rewrites self.now.constructs.rewriter.fuel (F.pre self.now.constructs.rewriter.rewrite) (F.post self.now.constructs.rewriter.rewrite) }
         ensures { OnOk result (Makes (t.binary at operator (part left.now) (part right.now)) maker.old maker.new) }
     {
         match operator {
@@ -264,7 +269,7 @@ impl<F: Fn(&mut Maker, usize, View, &Tree) -> Result<(), NoMemory>> Rewriter<F> 
         left: &Boxed<Tree>,
         right: &Boxed<Tree>,
     ) -> Result<(), NoMemory>
-        requires { Rewrites self.now.fuel (F.pre self.now.rewrite) (F.post self.now.rewrite) }
+        requires { Rewrites self.now.constructs.rewriter.fuel (F.pre self.now.constructs.rewriter.rewrite) (F.post self.now.constructs.rewriter.rewrite) }
         ensures { OnOk result (Makes (t.not_equal at (part left.now) (part right.now)) maker.old maker.new) }
     {
         maker.open(Form::Not, at)?;
@@ -281,12 +286,12 @@ impl<F: Fn(&mut Maker, usize, View, &Tree) -> Result<(), NoMemory>> Rewriter<F> 
         left: &Boxed<Tree>,
         right: &Boxed<Tree>,
     ) -> Result<(), NoMemory>
-        requires { Rewrites self.now.fuel (F.pre self.now.rewrite) (F.post self.now.rewrite) }
+        requires { Rewrites self.now.constructs.rewriter.fuel (F.pre self.now.constructs.rewriter.rewrite) (F.post self.now.constructs.rewriter.rewrite) }
         ensures { OnOk result (Makes (t.both form at (part left.now) (part right.now)) maker.old maker.new) }
     {
         maker.open(form, at)?;
-        self.term(maker, left)?;
-        self.term(maker, right)?;
+        self.constructs.rewriter.term(maker, left)?;
+        self.constructs.rewriter.term(maker, right)?;
         maker.close()?;
         Ok(())
     }
@@ -299,13 +304,13 @@ impl<F: Fn(&mut Maker, usize, View, &Tree) -> Result<(), NoMemory>> Rewriter<F> 
         left: &Boxed<Tree>,
         right: &Boxed<Tree>,
     ) -> Result<(), NoMemory>
-        requires { Rewrites self.now.fuel (F.pre self.now.rewrite) (F.post self.now.rewrite) }
+        requires { Rewrites self.now.constructs.rewriter.fuel (F.pre self.now.constructs.rewriter.rewrite) (F.post self.now.constructs.rewriter.rewrite) }
         ensures { OnOk result (Makes (t.operation at name.now (part left.now) (part right.now)) maker.old maker.new) }
     {
         let name = maker.name(name)?;
         maker.open(sent_form(name), at)?;
-        self.term(maker, left)?;
-        self.term(maker, right)?;
+        self.constructs.rewriter.term(maker, left)?;
+        self.constructs.rewriter.term(maker, right)?;
         maker.close()?;
         Ok(())
     }
@@ -317,7 +322,7 @@ impl<F: Fn(&mut Maker, usize, View, &Tree) -> Result<(), NoMemory>> Rewriter<F> 
         operator: Unary,
         operand: &Boxed<Tree>,
     ) -> Result<(), NoMemory>
-        requires { Rewrites self.now.fuel (F.pre self.now.rewrite) (F.post self.now.rewrite) }
+        requires { Rewrites self.now.constructs.rewriter.fuel (F.pre self.now.constructs.rewriter.rewrite) (F.post self.now.constructs.rewriter.rewrite) }
         ensures { OnOk result (Makes (t.unary at operator (part operand.now)) maker.old maker.new) }
     {
         match operator {
@@ -327,22 +332,22 @@ impl<F: Fn(&mut Maker, usize, View, &Tree) -> Result<(), NoMemory>> Rewriter<F> 
     }
 
     fn not(&self, maker: &mut Maker, at: u32, operand: &Boxed<Tree>) -> Result<(), NoMemory>
-        requires { Rewrites self.now.fuel (F.pre self.now.rewrite) (F.post self.now.rewrite) }
+        requires { Rewrites self.now.constructs.rewriter.fuel (F.pre self.now.constructs.rewriter.rewrite) (F.post self.now.constructs.rewriter.rewrite) }
         ensures { OnOk result (Makes (t.around f.Not at (part operand.now)) maker.old maker.new) }
     {
         maker.open(Form::Not, at)?;
-        self.term(maker, operand)?;
+        self.constructs.rewriter.term(maker, operand)?;
         maker.close()?;
         Ok(())
     }
 
     fn negate(&self, maker: &mut Maker, at: u32, operand: &Boxed<Tree>) -> Result<(), NoMemory>
-        requires { Rewrites self.now.fuel (F.pre self.now.rewrite) (F.post self.now.rewrite) }
+        requires { Rewrites self.now.constructs.rewriter.fuel (F.pre self.now.constructs.rewriter.rewrite) (F.post self.now.constructs.rewriter.rewrite) }
         ensures { OnOk result (Makes (t.negate at (part operand.now)) maker.old maker.new) }
     {
         let name = maker.name("-")?;
         maker.open(sent_form(name), at)?;
-        self.term(maker, operand)?;
+        self.constructs.rewriter.term(maker, operand)?;
         maker.close()?;
         Ok(())
     }
@@ -356,18 +361,20 @@ impl<F: Fn(&mut Maker, usize, View, &Tree) -> Result<(), NoMemory>> Rewriter<F> 
         path: &Items<TokenText>,
         arguments: &Items<Tree>,
     ) -> Result<(), NoMemory>
-        requires { Rewrites self.now.fuel (F.pre self.now.rewrite) (F.post self.now.rewrite) }
+        requires { Rewrites self.now.constructs.rewriter.fuel (F.pre self.now.constructs.rewriter.rewrite) (F.post self.now.constructs.rewriter.rewrite) }
         ensures { OnOk result (Makes (t.atom at path.now (parts arguments.now)) maker.old maker.new) }
     {
         let name = maker.path_name(path)?;
         maker.open(Form::Atom(name), at)?;
-        self.each(maker, View::Union(at), arguments)?;
+        self.constructs
+            .rewriter
+            .each(maker, View::Union(at), arguments)?;
         maker.close()?;
         Ok(())
     }
 
     pub fn nil_atom(&self, maker: &mut Maker, at: u32) -> Result<(), NoMemory>
-        requires { Rewrites self.now.fuel (F.pre self.now.rewrite) (F.post self.now.rewrite) }
+        requires { Rewrites self.now.constructs.rewriter.fuel (F.pre self.now.constructs.rewriter.rewrite) (F.post self.now.constructs.rewriter.rewrite) }
         ensures { OnOk result (Makes (t.nil_atom at) maker.old maker.new) }
     {
         let name = maker.name("Nil")?;
@@ -377,11 +384,11 @@ impl<F: Fn(&mut Maker, usize, View, &Tree) -> Result<(), NoMemory>> Rewriter<F> 
 
     /// A written type, by its atoms.
     pub fn atoms(&self, maker: &mut Maker, tree: &Tree) -> Result<(), NoMemory>
-        requires { Rewrites self.now.fuel (F.pre self.now.rewrite) (F.post self.now.rewrite) }
+        requires { Rewrites self.now.constructs.rewriter.fuel (F.pre self.now.constructs.rewriter.rewrite) (F.post self.now.constructs.rewriter.rewrite) }
         ensures { OnOk result (Makes ((part tree.now).atoms) maker.old maker.new) }
     {
         match tree {
-            Tree::Union { atoms } => self.each(maker, View::Atoms, atoms),
+            Tree::Union { atoms } => self.constructs.rewriter.each(maker, View::Atoms, atoms),
             Tree::Atom {
                 at,
                 path,
@@ -393,7 +400,7 @@ impl<F: Fn(&mut Maker, usize, View, &Tree) -> Result<(), NoMemory>> Rewriter<F> 
 
     /// The class before `new`.
     pub fn class_of(&self, maker: &mut Maker, tree: &Tree) -> Result<(), NoMemory>
-        requires { Rewrites self.now.fuel (F.pre self.now.rewrite) (F.post self.now.rewrite) }
+        requires { Rewrites self.now.constructs.rewriter.fuel (F.pre self.now.constructs.rewriter.rewrite) (F.post self.now.constructs.rewriter.rewrite) }
         ensures { OnOk result (Makes ((part tree.now).class) maker.old maker.new) }
     {
         match tree {
@@ -408,7 +415,7 @@ impl<F: Fn(&mut Maker, usize, View, &Tree) -> Result<(), NoMemory>> Rewriter<F> 
 
     /// A written type of the construct at this place.
     pub fn union(&self, maker: &mut Maker, at: u32, tree: &Tree) -> Result<(), NoMemory>
-        requires { Rewrites self.now.fuel (F.pre self.now.rewrite) (F.post self.now.rewrite) }
+        requires { Rewrites self.now.constructs.rewriter.fuel (F.pre self.now.constructs.rewriter.rewrite) (F.post self.now.constructs.rewriter.rewrite) }
         ensures { OnOk result (Makes (p.union at (part tree.now)) maker.old maker.new) }
     {
         maker.open(Form::Union, at)?;
@@ -418,11 +425,11 @@ impl<F: Fn(&mut Maker, usize, View, &Tree) -> Result<(), NoMemory>> Rewriter<F> 
     }
 
     pub fn is_nil(&self, maker: &mut Maker, at: u32, value: &Boxed<Tree>) -> Result<(), NoMemory>
-        requires { Rewrites self.now.fuel (F.pre self.now.rewrite) (F.post self.now.rewrite) }
+        requires { Rewrites self.now.constructs.rewriter.fuel (F.pre self.now.constructs.rewriter.rewrite) (F.post self.now.constructs.rewriter.rewrite) }
         ensures { OnOk result (Makes (t.is_nil at (part value.now)) maker.old maker.new) }
     {
         maker.open(Form::IsA, at)?;
-        self.term(maker, value)?;
+        self.constructs.rewriter.term(maker, value)?;
         self.nil_atom(maker, at)?;
         maker.close()?;
         Ok(())
@@ -435,12 +442,12 @@ impl<F: Fn(&mut Maker, usize, View, &Tree) -> Result<(), NoMemory>> Rewriter<F> 
         value: &Boxed<Tree>,
         of: &Boxed<Tree>,
     ) -> Result<(), NoMemory>
-        requires { Rewrites self.now.fuel (F.pre self.now.rewrite) (F.post self.now.rewrite) }
+        requires { Rewrites self.now.constructs.rewriter.fuel (F.pre self.now.constructs.rewriter.rewrite) (F.post self.now.constructs.rewriter.rewrite) }
         ensures { OnOk result (Makes (t.is_a at (part value.now) (part of.now)) maker.old maker.new) }
     {
         maker.open(Form::IsA, at)?;
-        self.term(maker, value)?;
-        self.boxed(maker, View::Atoms, of)?;
+        self.constructs.rewriter.term(maker, value)?;
+        self.constructs.rewriter.boxed(maker, View::Atoms, of)?;
         maker.close()?;
         Ok(())
     }
@@ -448,7 +455,7 @@ impl<F: Fn(&mut Maker, usize, View, &Tree) -> Result<(), NoMemory>> Rewriter<F> 
     // ---- what makes a value
 
     pub fn field(&self, maker: &mut Maker, at: u32, name: &TokenText) -> Result<(), NoMemory>
-        requires { Rewrites self.now.fuel (F.pre self.now.rewrite) (F.post self.now.rewrite) }
+        requires { Rewrites self.now.constructs.rewriter.fuel (F.pre self.now.constructs.rewriter.rewrite) (F.post self.now.constructs.rewriter.rewrite) }
         ensures { OnOk result (Makes (t.field at name.now) maker.old maker.new) }
     {
         let name = maker.variable(name)?;
@@ -465,13 +472,15 @@ impl<F: Fn(&mut Maker, usize, View, &Tree) -> Result<(), NoMemory>> Rewriter<F> 
         arguments: &Items<Tree>,
         block: &Option<Boxed<Tree>>,
     ) -> Result<(), NoMemory>
-        requires { Rewrites self.now.fuel (F.pre self.now.rewrite) (F.post self.now.rewrite) }
+        requires { Rewrites self.now.constructs.rewriter.fuel (F.pre self.now.constructs.rewriter.rewrite) (F.post self.now.constructs.rewriter.rewrite) }
         ensures { OnOk result (Makes (t.new at (part class.now) question (parts arguments.now) (maybe_part block.now)) maker.old maker.new) }
     {
         maker.open(new_form(question, block), at)?;
-        self.boxed(maker, View::Class, class)?;
-        self.each(maker, View::Term, arguments)?;
-        self.maybe(maker, View::Block(at), block)?;
+        self.constructs.rewriter.boxed(maker, View::Class, class)?;
+        self.constructs.rewriter.each(maker, View::Term, arguments)?;
+        self.constructs
+            .rewriter
+            .maybe(maker, View::Block(at), block)?;
         maker.close()?;
         Ok(())
     }
@@ -483,12 +492,14 @@ impl<F: Fn(&mut Maker, usize, View, &Tree) -> Result<(), NoMemory>> Rewriter<F> 
         elements: &Items<Tree>,
         element: &Option<Boxed<Tree>>,
     ) -> Result<(), NoMemory>
-        requires { Rewrites self.now.fuel (F.pre self.now.rewrite) (F.post self.now.rewrite) }
+        requires { Rewrites self.now.constructs.rewriter.fuel (F.pre self.now.constructs.rewriter.rewrite) (F.post self.now.constructs.rewriter.rewrite) }
         ensures { OnOk result (Makes (t.array at (parts elements.now) (maybe_part element.now)) maker.old maker.new) }
     {
         maker.open(array_form(element), at)?;
-        self.each(maker, View::Term, elements)?;
-        self.maybe(maker, View::Union(at), element)?;
+        self.constructs.rewriter.each(maker, View::Term, elements)?;
+        self.constructs
+            .rewriter
+            .maybe(maker, View::Union(at), element)?;
         maker.close()?;
         Ok(())
     }
@@ -500,19 +511,21 @@ impl<F: Fn(&mut Maker, usize, View, &Tree) -> Result<(), NoMemory>> Rewriter<F> 
         entries: &Items<Tree>,
         entry: &Option<Boxed<Tree>>,
     ) -> Result<(), NoMemory>
-        requires { Rewrites self.now.fuel (F.pre self.now.rewrite) (F.post self.now.rewrite) }
+        requires { Rewrites self.now.constructs.rewriter.fuel (F.pre self.now.constructs.rewriter.rewrite) (F.post self.now.constructs.rewriter.rewrite) }
         ensures { OnOk result (Makes (t.hash at (parts entries.now) (maybe_part entry.now)) maker.old maker.new) }
     {
         maker.open(hash_form(entry), at)?;
-        self.each(maker, View::Pair, entries)?;
-        self.maybe(maker, View::PairTypes(at), entry)?;
+        self.constructs.rewriter.each(maker, View::Pair, entries)?;
+        self.constructs
+            .rewriter
+            .maybe(maker, View::PairTypes(at), entry)?;
         maker.close()?;
         Ok(())
     }
 
     /// An entry of a hash.
     pub fn pair(&self, maker: &mut Maker, tree: &Tree) -> Result<(), NoMemory>
-        requires { Rewrites self.now.fuel (F.pre self.now.rewrite) (F.post self.now.rewrite) }
+        requires { Rewrites self.now.constructs.rewriter.fuel (F.pre self.now.constructs.rewriter.rewrite) (F.post self.now.constructs.rewriter.rewrite) }
         ensures { OnOk result (Makes ((part tree.now).pair) maker.old maker.new) }
     {
         match tree {
@@ -522,11 +535,11 @@ impl<F: Fn(&mut Maker, usize, View, &Tree) -> Result<(), NoMemory>> Rewriter<F> 
     }
 
     fn two(&self, maker: &mut Maker, key: &Boxed<Tree>, value: &Boxed<Tree>) -> Result<(), NoMemory>
-        requires { Rewrites self.now.fuel (F.pre self.now.rewrite) (F.post self.now.rewrite) }
+        requires { Rewrites self.now.constructs.rewriter.fuel (F.pre self.now.constructs.rewriter.rewrite) (F.post self.now.constructs.rewriter.rewrite) }
         ensures { OnOk result (Makes (t.two (part key.now) (part value.now)) maker.old maker.new) }
     {
-        self.term(maker, key)?;
-        self.term(maker, value)?;
+        self.constructs.rewriter.term(maker, key)?;
+        self.constructs.rewriter.term(maker, value)?;
         Ok(())
     }
 
@@ -537,16 +550,18 @@ impl<F: Fn(&mut Maker, usize, View, &Tree) -> Result<(), NoMemory>> Rewriter<F> 
         key: &Boxed<Tree>,
         value: &Boxed<Tree>,
     ) -> Result<(), NoMemory>
-        requires { Rewrites self.now.fuel (F.pre self.now.rewrite) (F.post self.now.rewrite) }
+        requires { Rewrites self.now.constructs.rewriter.fuel (F.pre self.now.constructs.rewriter.rewrite) (F.post self.now.constructs.rewriter.rewrite) }
         ensures { OnOk result (Makes (t.two_unions at (part key.now) (part value.now)) maker.old maker.new) }
     {
-        self.boxed(maker, View::Union(at), key)?;
-        self.boxed(maker, View::Union(at), value)?;
+        self.constructs.rewriter.boxed(maker, View::Union(at), key)?;
+        self.constructs
+            .rewriter
+            .boxed(maker, View::Union(at), value)?;
         Ok(())
     }
 
     fn no_unions(&self, maker: &mut Maker, at: u32) -> Result<(), NoMemory>
-        requires { Rewrites self.now.fuel (F.pre self.now.rewrite) (F.post self.now.rewrite) }
+        requires { Rewrites self.now.constructs.rewriter.fuel (F.pre self.now.constructs.rewriter.rewrite) (F.post self.now.constructs.rewriter.rewrite) }
         ensures { OnOk result (Makes (t.no_unions at) maker.old maker.new) }
     {
         maker.leaf(Form::Union, at)?;
@@ -556,7 +571,7 @@ impl<F: Fn(&mut Maker, usize, View, &Tree) -> Result<(), NoMemory>> Rewriter<F> 
 
     /// The types of the entries of the hash at this place.
     pub fn pair_types(&self, maker: &mut Maker, at: u32, tree: &Tree) -> Result<(), NoMemory>
-        requires { Rewrites self.now.fuel (F.pre self.now.rewrite) (F.post self.now.rewrite) }
+        requires { Rewrites self.now.constructs.rewriter.fuel (F.pre self.now.constructs.rewriter.rewrite) (F.post self.now.constructs.rewriter.rewrite) }
         ensures { OnOk result (Makes ((part tree.now).pair_types at) maker.old maker.new) }
     {
         match tree {
@@ -569,7 +584,7 @@ impl<F: Fn(&mut Maker, usize, View, &Tree) -> Result<(), NoMemory>> Rewriter<F> 
 
     /// The block of the construct at this place.
     pub fn block_of(&self, maker: &mut Maker, at: u32, tree: &Tree) -> Result<(), NoMemory>
-        requires { Rewrites self.now.fuel (F.pre self.now.rewrite) (F.post self.now.rewrite) }
+        requires { Rewrites self.now.constructs.rewriter.fuel (F.pre self.now.constructs.rewriter.rewrite) (F.post self.now.constructs.rewriter.rewrite) }
         ensures { OnOk result (Makes ((part tree.now).block at) maker.old maker.new) }
     {
         match tree {
@@ -585,13 +600,15 @@ impl<F: Fn(&mut Maker, usize, View, &Tree) -> Result<(), NoMemory>> Rewriter<F> 
         parameters: &Items<Tree>,
         body: &Items<Tree>,
     ) -> Result<(), NoMemory>
-        requires { Rewrites self.now.fuel (F.pre self.now.rewrite) (F.post self.now.rewrite) }
+        requires { Rewrites self.now.constructs.rewriter.fuel (F.pre self.now.constructs.rewriter.rewrite) (F.post self.now.constructs.rewriter.rewrite) }
         ensures { OnOk result (Makes (t.block at (parts parameters.now) (parts body.now)) maker.old maker.new) }
     {
         let scope = maker.enter()?;
         maker.open(Form::Block(scope), at)?;
-        self.each(maker, View::Parameter, parameters)?;
-        self.statements(maker, at, body)?;
+        self.constructs
+            .rewriter
+            .each(maker, View::Parameter, parameters)?;
+        self.constructs.rewriter.statements(maker, at, body)?;
         maker.close()?;
         maker.leave();
         Ok(())
@@ -604,18 +621,18 @@ impl<F: Fn(&mut Maker, usize, View, &Tree) -> Result<(), NoMemory>> Rewriter<F> 
         context: &Option<Boxed<Tree>>,
         body: &Items<Tree>,
     ) -> Result<(), NoMemory>
-        requires { Rewrites self.now.fuel (F.pre self.now.rewrite) (F.post self.now.rewrite) }
+        requires { Rewrites self.now.constructs.rewriter.fuel (F.pre self.now.constructs.rewriter.rewrite) (F.post self.now.constructs.rewriter.rewrite) }
         ensures { OnOk result (Makes (t.spawn at (maybe_part context.now) (parts body.now)) maker.old maker.new) }
     {
         maker.open(spawn_form(context), at)?;
-        self.maybe(maker, View::Term, context)?;
+        self.constructs.rewriter.maybe(maker, View::Term, context)?;
         self.plain_block(maker, at, body)?;
         maker.close()?;
         Ok(())
     }
 
     fn empty_block(&self, maker: &mut Maker, at: u32) -> Result<(), NoMemory>
-        requires { Rewrites self.now.fuel (F.pre self.now.rewrite) (F.post self.now.rewrite) }
+        requires { Rewrites self.now.constructs.rewriter.fuel (F.pre self.now.constructs.rewriter.rewrite) (F.post self.now.constructs.rewriter.rewrite) }
         ensures { OnOk result (Makes (t.block at [] []) maker.old maker.new) }
     {
         let none = Items::new(maker.naming.alloc);
@@ -624,7 +641,7 @@ impl<F: Fn(&mut Maker, usize, View, &Tree) -> Result<(), NoMemory>> Rewriter<F> 
 
     /// A block without parameters.
     fn plain_block(&self, maker: &mut Maker, at: u32, body: &Items<Tree>) -> Result<(), NoMemory>
-        requires { Rewrites self.now.fuel (F.pre self.now.rewrite) (F.post self.now.rewrite) }
+        requires { Rewrites self.now.constructs.rewriter.fuel (F.pre self.now.constructs.rewriter.rewrite) (F.post self.now.constructs.rewriter.rewrite) }
         ensures { OnOk result (Makes (t.block at [] (parts body.now)) maker.old maker.new) }
     {
         let none = Items::new(maker.naming.alloc);
@@ -637,11 +654,11 @@ impl<F: Fn(&mut Maker, usize, View, &Tree) -> Result<(), NoMemory>> Rewriter<F> 
         at: u32,
         arguments: &Items<Tree>,
     ) -> Result<(), NoMemory>
-        requires { Rewrites self.now.fuel (F.pre self.now.rewrite) (F.post self.now.rewrite) }
+        requires { Rewrites self.now.constructs.rewriter.fuel (F.pre self.now.constructs.rewriter.rewrite) (F.post self.now.constructs.rewriter.rewrite) }
         ensures { OnOk result (Makes (t.yield at (parts arguments.now)) maker.old maker.new) }
     {
         maker.open(Form::Yield, at)?;
-        self.each(maker, View::Term, arguments)?;
+        self.constructs.rewriter.each(maker, View::Term, arguments)?;
         maker.close()?;
         Ok(())
     }
@@ -652,42 +669,26 @@ impl<F: Fn(&mut Maker, usize, View, &Tree) -> Result<(), NoMemory>> Rewriter<F> 
         at: u32,
         arguments: &Items<Tree>,
     ) -> Result<(), NoMemory>
-        requires { Rewrites self.now.fuel (F.pre self.now.rewrite) (F.post self.now.rewrite) }
+        requires { Rewrites self.now.constructs.rewriter.fuel (F.pre self.now.constructs.rewriter.rewrite) (F.post self.now.constructs.rewriter.rewrite) }
         ensures { OnOk result (Makes (t.super at (parts arguments.now)) maker.old maker.new) }
     {
         maker.open(Form::Super, at)?;
-        self.each(maker, View::Term, arguments)?;
+        self.constructs.rewriter.each(maker, View::Term, arguments)?;
         maker.close()?;
         Ok(())
     }
 
     /// `super` alone, which passes the parameters on.
     pub fn bare_super(&self, maker: &mut Maker, at: u32) -> Result<(), NoMemory>
-        requires { Rewrites self.now.fuel (F.pre self.now.rewrite) (F.post self.now.rewrite) }
+        requires { Rewrites self.now.constructs.rewriter.fuel (F.pre self.now.constructs.rewriter.rewrite) (F.post self.now.constructs.rewriter.rewrite) }
         ensures { OnOk result (Makes (t.bare_super at) maker.old maker.new) }
     {
         let passed = maker.passed()?;
         maker.open(Form::Super, at)?;
-        self.locals(maker, at, passed.first, passed.count)?;
+        self.constructs
+            .rewriter
+            .locals(maker, at, passed.first, passed.count)?;
         maker.close()?;
-        Ok(())
-    }
-
-    /// So many locals in a row.
-    pub fn locals(
-        &self,
-        maker: &mut Maker,
-        at: u32,
-        first: Local,
-        count: usize,
-    ) -> Result<(), NoMemory>
-        requires { Rewrites self.now.fuel (F.pre self.now.rewrite) (F.post self.now.rewrite) }
-        ensures { OnOk result (Makes (t.locals at first count) maker.old maker.new) }
-    {
-        for i in 0..count {
-            let local = later_local(first, i)?;
-            maker.leaf(Form::Local(local), at)?;
-        }
         Ok(())
     }
 }

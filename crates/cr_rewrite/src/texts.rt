@@ -2,23 +2,21 @@
 
 ghost use Rattle.std.specs.Prelude.{◌≤◌, true, false, length, take, OnOk};
 ghost use Rattle.cr_core.specs.declared.form.Form.TheVariants as f;
-ghost use Rattle.cr_rewrite.specs.Made.{Makes};
-ghost use Rattle.cr_rewrite.specs.Knot.{Rewrites};
-ghost use Rattle.cr_rewrite.specs.Terms as t;
+ghost use Rattle.cr_making.specs.Made.{Makes};
+ghost use Rattle.cr_making.specs.Knot.{Rewrites};
+ghost use Rattle.cr_making.specs.Terms as t;
 ghost use Rattle.cr_rewrite.specs.Left as left;
-ghost use Rattle.cr_rewrite.specs.Table.{part, parts};
+ghost use Rattle.cr_making.specs.Table.{part, parts};
 
-use crate::forms::sent_form;
-use crate::maker::Maker;
-use crate::rewrite::Rewriter;
-use crate::view::View;
+use crate::terms::Terms;
 use cr_base::{NameId, NoMemory};
 use cr_core::Form;
 use cr_grammar::Tree;
+use cr_making::{Maker, View, sent_form};
 use cr_syntax::TokenText;
 use sqlite_items::Items;
 
-impl<F: Fn(&mut Maker, usize, View, &Tree) -> Result<(), NoMemory>> Rewriter<F> {
+impl<F: Fn(&mut Maker, usize, View, &Tree) -> Result<(), NoMemory>> Terms<F> {
     pub fn insertions(
         &self,
         maker: &mut Maker,
@@ -26,7 +24,7 @@ impl<F: Fn(&mut Maker, usize, View, &Tree) -> Result<(), NoMemory>> Rewriter<F> 
         texts: &Items<TokenText>,
         inserted: &Items<Tree>,
     ) -> Result<(), NoMemory>
-        requires { Rewrites self.now.fuel (F.pre self.now.rewrite) (F.post self.now.rewrite) }
+        requires { Rewrites self.now.constructs.rewriter.fuel (F.pre self.now.constructs.rewriter.rewrite) (F.post self.now.constructs.rewriter.rewrite) }
         ensures { OnOk result (Makes (t.insertions at texts.now (parts inserted.now)) maker.old maker.new) }
     {
         let plus = maker.name("+")?;
@@ -44,7 +42,7 @@ impl<F: Fn(&mut Maker, usize, View, &Tree) -> Result<(), NoMemory>> Rewriter<F> 
         texts: &[TokenText],
         inserted: &[Tree],
     ) -> Result<(), NoMemory>
-        requires { Rewrites self.now.fuel (F.pre self.now.rewrite) (F.post self.now.rewrite) }
+        requires { Rewrites self.now.constructs.rewriter.fuel (F.pre self.now.constructs.rewriter.rewrite) (F.post self.now.constructs.rewriter.rewrite) }
         ensures { OnOk result (Makes (t.joined_text at plus to_s texts.now (parts inserted.now)) maker.old maker.new) }
     {
         let Some((first, others)) = texts.split_first() else {
@@ -68,7 +66,7 @@ impl<F: Fn(&mut Maker, usize, View, &Tree) -> Result<(), NoMemory>> Rewriter<F> 
         inserted: &[Tree],
         count: usize,
     ) -> Result<(), NoMemory>
-        requires rewrites { Rewrites self.now.fuel (F.pre self.now.rewrite) (F.post self.now.rewrite) }
+        requires rewrites { Rewrites self.now.constructs.rewriter.fuel (F.pre self.now.constructs.rewriter.rewrite) (F.post self.now.constructs.rewriter.rewrite) }
         requires texts { count ≤ length texts.now }
         requires inserted { count ≤ length inserted.now }
         ensures { OnOk result (left.Follows (t.insertions_with at to_s (take count texts.now) (parts (take count inserted.now))) maker.old maker.new) }
@@ -90,7 +88,7 @@ impl<F: Fn(&mut Maker, usize, View, &Tree) -> Result<(), NoMemory>> Rewriter<F> 
         plus: NameId,
         count: usize,
     ) -> Result<(), NoMemory>
-        requires { Rewrites self.now.fuel (F.pre self.now.rewrite) (F.post self.now.rewrite) }
+        requires { Rewrites self.now.constructs.rewriter.fuel (F.pre self.now.constructs.rewriter.rewrite) (F.post self.now.constructs.rewriter.rewrite) }
         ensures { OnOk result (left.Opens (left.twice count) (f.Call plus true false) at maker.old maker.new) }
     {
         for i in 0..count {
@@ -108,11 +106,11 @@ impl<F: Fn(&mut Maker, usize, View, &Tree) -> Result<(), NoMemory>> Rewriter<F> 
         to_s: NameId,
         inserted: &Tree,
     ) -> Result<(), NoMemory>
-        requires { Rewrites self.now.fuel (F.pre self.now.rewrite) (F.post self.now.rewrite) }
+        requires { Rewrites self.now.constructs.rewriter.fuel (F.pre self.now.constructs.rewriter.rewrite) (F.post self.now.constructs.rewriter.rewrite) }
         ensures { OnOk result (Makes (t.insertion at to_s (part inserted.now)) maker.old maker.new) }
     {
         maker.open(sent_form(to_s), at)?;
-        self.one(maker, View::Term, inserted)?;
+        self.constructs.rewriter.one(maker, View::Term, inserted)?;
         maker.close()?;
         Ok(())
     }

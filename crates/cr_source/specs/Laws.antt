@@ -1,5 +1,5 @@
 -- What is claimed of refusals.
-use Rattle.std.specs.Prelude.{◌≡◌, ℕ, List}
+use Rattle.std.specs.Prelude.{◌≡◌, ◌⊎◌, ℕ, List}
 use Rattle.cr_syntax.specs.declared.fault.LexFault.{LexFault}
 use Rattle.cr_syntax.specs.Faults.{lex_fault}
 use Rattle.cr_grammar.specs.declared.tree.Tree.{Tree}
@@ -17,3 +17,7 @@ FaultOfTokensComes = (source : List ℕ) (f : LexFault) (code : Code) (at : ℕ)
 -- A source is a program of one tree at most.
 abbrev pub AtMostOneSource : Type 0
 AtMostOneSource = (source : List ℕ) (x y : Tree) → IsSource source x → IsSource source y → x ≡ y
+
+-- Each source has an answer: it is a program within the limits, or it is refused.
+abbrev pub EachSourceIsAnswered : Type 0
+EachSourceIsAnswered = (source : List ℕ) → ((x : Tree) × IsSource source x) ⊎ ((code : Code) × (at : ℕ) × IsRefused source code at)

@@ -1,9 +1,10 @@
-//! Laws of the definitions: a source is a program or refused, and for the fault of its tokens where it has none.
+//! Laws of the definitions: a source is a program or refused, one of the two, and for the fault of its tokens where it has none.
 
-ghost use Rattle.cr_source.specs.Laws.{AtMostOneSource, FaultOfTokensComes, NeverProgramAndRefusal};
+ghost use Rattle.cr_source.specs.Laws.{AtMostOneSource, EachSourceIsAnswered, FaultOfTokensComes, NeverProgramAndRefusal};
 
-use cr_descent::{one_tree, program_is_accepted};
-use cr_syntax::{at_most_one_fault, at_most_one_list, never_tokens_and_fault};
+use cr_descent::{one_tree, program_is_accepted, tokens_end_once};
+use cr_steady::program_is_decided;
+use cr_syntax::{at_most_one_fault, at_most_one_list, never_tokens_and_fault, tokens_or_fault};
 
 /// A program within the limits is refused nowhere.
 pub fn never_program_and_refusal()
@@ -28,4 +29,13 @@ pub fn at_most_one_source()
 {
     at_most_one_list();
     one_tree();
+}
+
+/// Each source is a program within the limits, or is refused: for a fault of its tokens, at its first unexpected token, or for a limit.
+pub fn each_source_is_answered()
+    ensures { EachSourceIsAnswered }
+{
+    program_is_decided();
+    tokens_end_once();
+    tokens_or_fault();
 }

@@ -8,3 +8,4 @@ pub mod Lexes
 pub mod Faults
 pub mod Laws
 pub mod Names
+pub mod Kept

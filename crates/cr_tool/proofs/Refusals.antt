@@ -1,13 +1,11 @@
 -- What a source is refused for.
-use Rattle.std.proofs.Common.{◌≡◌, ◌≢◌, ◌⊎◌, ℕ, List, Option, None, Some, Result, Ok, Err, ap, refl, inl, inr}
+use Rattle.std.proofs.Common.{◌≡◌, ◌⊎◌, ℕ, List, Option, None, Some, ap, inl, inr}
 use Rattle.cr_syntax.specs.declared.fault.LexFault.{LexFault}
 use Rattle.cr_syntax.specs.Faults.{lex_fault}
 use Rattle.cr_syntax.specs.Laws.{NeverBoth}
 use Rattle.cr_grammar.specs.declared.tree.Tree.{Tree}
-use Rattle.cr_source.specs.Laws.{FaultOfTokensComes, NeverProgramAndRefusal}
-use Rattle.cr_source.specs.declared.fault.SourceFault.{SourceFault}
-use Rattle.cr_source.specs.declared.fault.SourceFault.TheVariants as front
-use Rattle.cr_source.specs.Source.{Answers, IsSource, lexical}
+use Rattle.cr_source.specs.Laws.{EachSourceIsAnswered, FaultOfTokensComes, NeverProgramAndRefusal}
+use Rattle.cr_source.specs.Source.{IsSource, lexical}
 use Rattle.cr_tool.specs.declared.ending.Code.{Code}
 use Rattle.cr_tool.specs.declared.ending.Code.TheVariants.{Source, NotBuilt}
 use Rattle.cr_tool.specs.declared.ending.Ending.TheVariants as ending
@@ -19,18 +17,20 @@ use Rattle.cr_tool.proofs.Exactness.{one_place}
 use Rattle.cr_tool.proofs.Lines.{not_both}
 
 -- a source that is no list of sums is refused as the front answers it, and as not built where that is its tree
-refused_as_answered : (bytes : List ℕ) (at : ℕ) (answer : Result Tree SourceFault) → IsUnbuilt bytes at → Answers bytes answer → answer ≢ Err front.NoMemory → (refusal : Refusal) × HasRefusal list_of_sums bytes refusal
-refused_as_answered bytes at (Ok x) none answers some = (record { code = NotBuilt; at = Some at }, record { may = (at, none); breaks = (none, (x, answers)) })
-refused_as_answered bytes at (Err (front.Refused refusal)) none answers some = (record { code = Source refusal.code; at = Some refusal.at }, record { may = (at, none); breaks = answers })
-refused_as_answered bytes at (Err front.NoMemory) none answers some = absurd (some refl)
+refused_as_answered : EachSourceIsAnswered → (bytes : List ℕ) (at : ℕ) → IsUnbuilt bytes at → (refusal : Refusal) × HasRefusal list_of_sums bytes refusal
+refused_as_answered answered bytes at none = elim (answered bytes) [
+  | inl program ↦ (record { code = NotBuilt; at = Some at }, record { may = (at, none); breaks = (none, program) })
+  | inr fault ↦ (record { code = Source fault.0; at = Some fault.1 }, record { may = (at, none); breaks = fault.2 })
+]
 
-taken_or_refused : (demand : Demand) (bytes : List ℕ) (answer : Result Tree SourceFault) → Answers bytes answer → answer ≢ Err front.NoMemory → Takes demand bytes ⊎ ((refusal : Refusal) × HasRefusal demand bytes refusal)
-taken_or_refused nothing bytes (Ok x) answers some = inl (x, answers)
-taken_or_refused nothing bytes (Err (front.Refused refusal)) answers some = inr (record { code = Source refusal.code; at = Some refusal.at }, record { may = tt; breaks = answers })
-taken_or_refused nothing bytes (Err front.NoMemory) answers some = absurd (some refl)
-taken_or_refused list_of_sums bytes answer answers some = elim (taken_or_not bytes) [
+taken_or_refused : EachSourceIsAnswered → (demand : Demand) (bytes : List ℕ) → Takes demand bytes ⊎ ((refusal : Refusal) × HasRefusal demand bytes refusal)
+taken_or_refused answered nothing bytes = elim (answered bytes) [
+  | inl program ↦ inl program
+  | inr fault ↦ inr (record { code = Source fault.0; at = Some fault.1 }, record { may = tt; breaks = fault.2 })
+]
+taken_or_refused answered list_of_sums bytes = elim (taken_or_not bytes) [
   | inl taken ↦ inl taken
-  | inr none ↦ inr (refused_as_answered bytes none.0 answer none.1 answers some)
+  | inr none ↦ inr (refused_as_answered answered bytes none.0 none.1)
 ]
 
 -- what is taken is not refused
@@ -59,9 +59,9 @@ for_program never demand bytes place (Source code) None x breaks lacks program =
 for_program never demand bytes place NotBuilt (Some at) x breaks lacks program = ap unbuilt (one_lack demand bytes at place breaks.0 lacks)
 for_program never demand bytes place NotBuilt None x breaks lacks program = absurd breaks
 
-pub refusals_are_exact : FaultOfTokensComes → NeverProgramAndRefusal → NeverBoth → RefusalsAreExact
-refusals_are_exact comes never both = record {
-  either = taken_or_refused;
+pub refusals_are_exact : EachSourceIsAnswered → FaultOfTokensComes → NeverProgramAndRefusal → NeverBoth → RefusalsAreExact
+refusals_are_exact answered comes never both = record {
+  either = taken_or_refused answered;
   never_both = λ demand bytes refusal is takes. for_nothing never demand bytes refusal.code refusal.at is.may is.breaks takes;
   tokens = λ demand bytes refusal f is fault. for_tokens comes both demand bytes refusal.code refusal.at f is.breaks fault;
   program = λ demand bytes refusal at x is lacks program. for_program never demand bytes at refusal.code refusal.at x is.breaks lacks program;

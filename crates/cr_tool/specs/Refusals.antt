@@ -1,12 +1,12 @@
 -- The first refusal of a source, for every command.
-use Rattle.std.specs.Prelude.{◌≡◌, ◌≢◌, ◌⊎◌, ℕ, List, Option, None, Some, Result, Err}
+use Rattle.std.specs.Prelude.{◌≡◌, ◌⊎◌, ℕ, List, Option, None, Some}
 use Rattle.cr_syntax.specs.declared.fault.LexFault.{LexFault}
 use Rattle.cr_syntax.specs.Faults.{lex_fault}
 use Rattle.cr_grammar.specs.declared.tree.Tree.{Tree}
 use Rattle.cr_source.specs.declared.fault.Code.{Code as SourceCode}
 use Rattle.cr_source.specs.declared.fault.SourceFault.{SourceFault}
 use Rattle.cr_source.specs.declared.fault.SourceFault.TheVariants as front
-use Rattle.cr_source.specs.Source.{Answers, IsRefused, IsSource, lexical}
+use Rattle.cr_source.specs.Source.{IsRefused, IsSource, lexical}
 use Rattle.cr_tool.specs.declared.ending.Ending.{Ending}
 use Rattle.cr_tool.specs.declared.ending.Ending.TheVariants as ending
 use Rattle.cr_tool.specs.declared.ending.Code.{Code}
@@ -64,11 +64,10 @@ no_program front.NoMemory = ending.NoMemory
 
 -- ---- what is claimed of refusals
 
--- Whatever the command asks: a source is taken or refused, of which the front tells its tree or why it has none, and never both; what is
+-- Whatever the command asks: each source is taken or refused, and never both; what is
 -- refused is refused for the fault of its tokens, where they have one, which no program has, and for what it lacks, where it is a program.
 pub record RefusalsAreExact : Type 0 where
-  pub either : (demand : Demand) (bytes : List ℕ) (answer : Result Tree SourceFault) → Answers bytes answer → answer ≢ Err front.NoMemory
-      → Takes demand bytes ⊎ ((refusal : Refusal) × HasRefusal demand bytes refusal)
+  pub either : (demand : Demand) (bytes : List ℕ) → Takes demand bytes ⊎ ((refusal : Refusal) × HasRefusal demand bytes refusal)
   pub never_both : (demand : Demand) (bytes : List ℕ) (refusal : Refusal) → HasRefusal demand bytes refusal → Takes demand bytes → ⊥
   pub tokens : (demand : Demand) (bytes : List ℕ) (refusal : Refusal) (f : LexFault) → HasRefusal demand bytes refusal → lex_fault bytes f → ending.Refused refusal ≡ no_program (lexical f)
   pub program : (demand : Demand) (bytes : List ℕ) (refusal : Refusal) (at : ℕ) (x : Tree) → HasRefusal demand bytes refusal → Lacks demand bytes at → IsSource bytes x → ending.Refused refusal ≡ unbuilt at

@@ -7,7 +7,7 @@ ghost use Rattle.cr_tool.specs.Refusals.{RefusalsAreExact};
 ghost use Rattle.cr_tool.specs.Sums.{Spells, IsUnbuilt};
 ghost use Rattle.cr_tool.specs.Words.{Says};
 
-use cr_source::{fault_of_tokens_comes, never_program_and_refusal};
+use cr_source::{each_source_is_answered, fault_of_tokens_comes, never_program_and_refusal};
 use cr_syntax::never_tokens_and_fault;
 
 /// The words of a command line say one thing at most.
@@ -31,11 +31,12 @@ pub fn program_or_refusal()
     ensures never_both { (source : List ℕ) (lines : List Line) (place : ℕ) → Spells source lines → IsUnbuilt source place → ⊥ }
 {}
 
-/// Whatever a command asks, each source that the front answers, unless with want of memory, is taken or refused, and not both; what has a
+/// Whatever a command asks, each source is taken or refused, and not both; what has a
 /// fault of tokens is refused for that, and a program for what it lacks.
 pub fn refusals_are_exact()
     ensures { RefusalsAreExact }
 {
+    each_source_is_answered();
     fault_of_tokens_comes();
     never_program_and_refusal();
     never_tokens_and_fault();

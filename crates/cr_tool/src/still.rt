@@ -18,6 +18,7 @@ use cr_schedule::History;
 use cr_source::{SourceFault, program_of};
 use sqlite_items::Boxed;
 use std::alloc::Global;
+use std::mem::ManuallyDrop;
 
 /// What a command tells of a program.
 #[tactic(auto, unfolding(crate::specs::Still::still_text))]
@@ -48,7 +49,8 @@ fn told(alloc: Global, command: Still, source: &[u8]) -> Result<Vec<u8>, SourceF
     requires short { length source.now ≤ source_limit }
     ensures { TellsOf command source.now result }
 {
-    let tree = program(alloc, source)?;
+    // The command is done with its text, and what ends gives its memory back at once.
+    let tree = ManuallyDrop::new(program(alloc, source)?);
     match text_of(alloc, command, tree.get()) {
         Ok(text) => Ok(text),
         Err(_) => Err(SourceFault::NoMemory),

@@ -4,6 +4,7 @@ ghost use Rattle.std.specs.Prelude.{◌≡◌, None};
 ghost use Rattle.cr_readers.specs.Operand as spec;
 ghost use Rattle.cr_words.specs.Gives.{Gives};
 
+use crate::lists::add;
 use cr_grammar::{Tree, Word};
 use cr_readers::{Operand, ParseFault};
 use sqlite_items::{Boxed, Items};
@@ -50,7 +51,7 @@ pub fn whole(alloc: Global, operand: Operand) -> Result<Boxed<Tree>, ParseFault>
         Operand::Above(at) => Tree::BareSuper { at },
         Operand::Passing(name, receiver, value) => {
             let mut arguments = Items::new(alloc);
-            arguments.push(value.into_inner())?;
+            add(alloc, &mut arguments, value.into_inner())?;
             call(Some(receiver), name, arguments)
         }
         Operand::Whole(tree) => return Ok(tree),

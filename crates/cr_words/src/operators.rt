@@ -1,6 +1,6 @@
 //! The operators: how tight each binds, and what a token assigns.
 
-ghost use Rattle.std.specs.Prelude.{◌≡◌};
+ghost use Rattle.std.specs.Prelude.{◌≡◌, false};
 ghost use Rattle.cr_syntax.specs.Look.{look_of};
 ghost use Rattle.cr_grammar.specs.Operators as o;
 ghost use Rattle.cr_readers.specs.Reader as reader;
@@ -8,7 +8,7 @@ ghost use Rattle.cr_readers.specs.Cursor.{state_of};
 ghost use Rattle.cr_readers.specs.Reads.{Reads};
 ghost use Rattle.cr_readers.specs.Goes as goes;
 ghost use Rattle.cr_readers.specs.Operations as operations;
-ghost use Rattle.cr_words.specs.Tables.{table};
+ghost use Rattle.cr_words.specs.Tables.{table, of_some_level};
 
 use crate::looks::is_sign;
 use cr_grammar::{Assignment, Binary};
@@ -110,6 +110,42 @@ pub fn field_assignment(look: TokenLook) -> Option<Assignment>
     match look {
         TokenLook::OrOrEqual => None,
         _ => any_assignment(look),
+    }
+}
+
+/// Whether a token of this look is an operator of some level.
+fn is_operator(look: TokenLook) -> bool
+    ensures { result ≡ of_some_level look false }
+{
+    match look {
+        TokenLook::OrOr
+        | TokenLook::AndAnd
+        | TokenLook::EqualEqual
+        | TokenLook::NotEqual
+        | TokenLook::Less
+        | TokenLook::LessEqual
+        | TokenLook::Greater
+        | TokenLook::GreaterEqual
+        | TokenLook::ShiftLeft
+        | TokenLook::Plus
+        | TokenLook::Minus
+        | TokenLook::WrappingPlus
+        | TokenLook::WrappingMinus
+        | TokenLook::Star
+        | TokenLook::SlashSlash
+        | TokenLook::Percent
+        | TokenLook::WrappingStar => true,
+        _ => false,
+    }
+}
+
+/// Whether an operator of any level comes.
+pub fn sees_any_operator(cursor: &Cursor<'_>) -> bool
+    ensures { result ≡ reader.passes of_some_level (state_of cursor.now).rest }
+{
+    match cursor.token() {
+        Some(token) => is_operator(token.kind.look()),
+        None => false,
     }
 }
 

@@ -35,7 +35,10 @@ pub fn spelled(alloc: Global, text: &str) -> Result<TokenText, ParseFault>
 pub fn copy(alloc: Global, text: &TokenText) -> Result<TokenText, ParseFault>
     ensures { Gives text.now result }
 {
-    spelled(alloc, text.as_str())
+    match text.copied(alloc) {
+        Ok(text) => Ok(text),
+        Err(_) => Err(ParseFault::NoMemory),
+    }
 }
 
 /// The next token is this one, which holds this text.
@@ -177,7 +180,7 @@ pub fn exactly_ident(cursor: &mut Cursor<'_>, text: &str) -> Result<u32, ParseFa
 {
     if let Some(token) = cursor.token() {
         if let TokenKind::Ident(found) = &token.kind {
-            if found.as_str() == text {
+            if found.as_bytes() == text.as_bytes() {
                 cursor.take();
                 return Ok(token.span.first);
             }

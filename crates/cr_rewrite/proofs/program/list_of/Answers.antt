@@ -1,8 +1,8 @@
 use Rattle.std.proofs.Common.{List, sym, ap, ◌∙◌}
 use Rattle.cr_grammar.specs.declared.tree.Tree.{Tree}
-use Rattle.cr_rewrite.specs.Part.{Part, members_of, statements_of}
-use Rattle.cr_rewrite.specs.Table.{parts}
-use Rattle.cr_rewrite.proofs.Tables.{facet, part_Statements, no_list_members, no_list_statements}
+use Rattle.cr_making.specs.Part.{Part, members_of, statements_of}
+use Rattle.cr_making.specs.Table.{parts}
+use Rattle.cr_making.proofs.Tables.{facet, part_Statements, no_list_members, no_list_statements}
 use Rattle.cr_rewrite.proofs.program.list_of.Goals as goal
 
 pub returns-in-Statements-clause-members : goal.returns-in-Statements-clause-members

@@ -1,7 +1,7 @@
 use Rattle.std.proofs.Common.{refl, arith}
-use Rattle.cr_rewrite.specs.Part.{Part}
-use Rattle.cr_rewrite.proofs.Done.{nothing_made}
-use Rattle.cr_rewrite.proofs.Loops.{each_more, each_done}
+use Rattle.cr_making.specs.Part.{Part}
+use Rattle.cr_making.proofs.Done.{nothing_made}
+use Rattle.cr_making.proofs.Loops.{each_more, each_done}
 use Rattle.cr_rewrite.proofs.program.members.Goals as goal
 
 pub loop-tree-init : goal.loop-tree-init

@@ -1,12 +1,12 @@
 use Rattle.std.proofs.Common.{refl, ap, ◌∙◌, arith, map, length, take, List}
 use Rattle.std.proofs.lemmas.List.{take_all}
 use Rattle.cr_grammar.specs.declared.tree.Tree.{Tree}
-use Rattle.cr_rewrite.specs.declared.view.View.TheVariants.{Term}
-use Rattle.cr_rewrite.specs.Part.{statements_of}
-use Rattle.cr_rewrite.specs.Table.{parts}
-use Rattle.cr_rewrite.proofs.Done.{nests_none}
-use Rattle.cr_rewrite.proofs.Nests.{nests_as}
-use Rattle.cr_rewrite.proofs.Loops.{front_by, count_more, front_fits}
+use Rattle.cr_making.specs.declared.view.View.TheVariants.{Term}
+use Rattle.cr_making.specs.Part.{statements_of}
+use Rattle.cr_making.specs.Table.{parts}
+use Rattle.cr_making.proofs.Done.{nests_none}
+use Rattle.cr_making.proofs.Nests.{nests_as}
+use Rattle.cr_making.proofs.Loops.{front_by, count_more, front_fits}
 use Rattle.cr_rewrite.proofs.Whole.{prelude_line}
 use Rattle.cr_rewrite.proofs.program.prelude_statements.Goals as goal
 

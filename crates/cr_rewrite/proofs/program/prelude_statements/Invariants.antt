@@ -1,9 +1,9 @@
 use Rattle.std.specs.Prelude.{◌≡◌, take, map, length}
 use Rattle.cr_core.specs.declared.form.Form.TheVariants.{Seq}
-use Rattle.cr_rewrite.specs.Made.{Nests}
-use Rattle.cr_rewrite.specs.Making.{Making, ahead, in_prelude}
-use Rattle.cr_rewrite.specs.Part.{statements_of}
-use Rattle.cr_rewrite.specs.Table.{parts}
+use Rattle.cr_making.specs.Made.{Nests}
+use Rattle.cr_making.specs.Making.{Making, ahead, in_prelude}
+use Rattle.cr_making.specs.Part.{statements_of}
+use Rattle.cr_making.specs.Table.{parts}
 use Rattle.cr_rewrite.proofs.program.prelude_statements.Given as goal
 
 abbrev pub invariant-loop-tree : goal.invariant-loop-tree

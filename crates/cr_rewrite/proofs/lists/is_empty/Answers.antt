@@ -1,5 +1,0 @@
-use Rattle.cr_rewrite.proofs.Loops.{empty_is}
-use Rattle.cr_rewrite.proofs.lists.is_empty.Goals as goal
-
-pub returns : goal.returns
-returns c = empty_is _ _ c.is_empty.ensures

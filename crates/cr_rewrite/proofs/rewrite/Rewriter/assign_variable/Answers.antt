@@ -1,7 +1,0 @@
-use Rattle.cr_rewrite.proofs.Done.{using_made}
-use Rattle.cr_rewrite.specs.Assigning.{assign_variable}
-use Rattle.cr_rewrite.proofs.rewrite.Rewriter.assign_variable.Goals as goal
-
-pub returns : goal.returns
-unfolding assign_variable
-returns g c = using_made _ c.in_ok-name.ensures c.in_ok-assigned.ensures

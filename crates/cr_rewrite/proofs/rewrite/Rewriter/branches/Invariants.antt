@@ -1,9 +1,0 @@
-use Rattle.std.specs.Prelude.{take, map}
-use Rattle.cr_core.specs.declared.form.Form.TheVariants.{If}
-use Rattle.cr_rewrite.specs.Made.{Nests}
-use Rattle.cr_rewrite.specs.Part.{Part}
-use Rattle.cr_rewrite.specs.Table.{parts}
-use Rattle.cr_rewrite.proofs.rewrite.Rewriter.branches.Given as goal
-
-abbrev pub invariant-loop-other : goal.invariant-loop-other
-invariant-loop-other g l = Nests If (map (λ (p : Part). p.branch) (parts (take l.other-index l.others))) l.initial.maker l.maker

@@ -1,7 +1,0 @@
-use Rattle.cr_rewrite.proofs.Done.{using_made}
-use Rattle.cr_rewrite.specs.Terms.{field}
-use Rattle.cr_rewrite.proofs.rewrite.Rewriter.field.Goals as goal
-
-pub returns : goal.returns
-unfolding field
-returns g c = using_made _ c.in_ok-name.ensures c.in_ok-leaf.ensures

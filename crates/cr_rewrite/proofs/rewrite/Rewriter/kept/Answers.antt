@@ -1,7 +1,0 @@
-use Rattle.cr_rewrite.proofs.Done.{wrap_made, using_made, leaf_as}
-use Rattle.cr_rewrite.specs.Declaring.{kept}
-use Rattle.cr_rewrite.proofs.rewrite.Rewriter.kept.Goals as goal
-
-pub returns : goal.returns
-unfolding kept
-returns g c = using_made _ c.in_ok-id.ensures (using_made _ c.in_ok-local.ensures (using_made _ c.in_ok-field.ensures (wrap_made c.in_ok-open.ensures (leaf_as _ c.local_form.ensures c.in_ok-leaf.ensures) c.in_ok-close.ensures)))

@@ -1,5 +1,0 @@
-use Rattle.cr_rewrite.proofs.Done.{nothing_made}
-use Rattle.cr_rewrite.proofs.rewrite.Rewriter.maybe.Goals as goal
-
-pub returns-in-None : goal.returns-in-None
-returns-in-None g c = rw c.in-None.is (nothing_made _)

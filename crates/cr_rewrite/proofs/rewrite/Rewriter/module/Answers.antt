@@ -1,7 +1,0 @@
-use Rattle.cr_rewrite.proofs.Done.{wrap_made, using_made}
-use Rattle.cr_rewrite.specs.Declaring.{module_}
-use Rattle.cr_rewrite.proofs.rewrite.Rewriter.module.Goals as goal
-
-pub returns : goal.returns
-unfolding module_
-returns g c = using_made _ c.in_ok-name.ensures (wrap_made c.in_ok-open.ensures c.in_ok-each.ensures c.in_ok-close.ensures)

@@ -1,7 +1,0 @@
-use Rattle.cr_rewrite.proofs.Done.{wrap_made, using_made, begins_as}
-use Rattle.cr_rewrite.specs.Terms.{called}
-use Rattle.cr_rewrite.proofs.rewrite.Rewriter.no_arm.Goals as goal
-
-pub returns : goal.returns
-unfolding called
-returns g c = using_made _ c.in_ok-name.ensures (wrap_made (begins_as c.sent_form.ensures c.in_ok-open.ensures) c.in_ok-leaf.ensures c.in_ok-close.ensures)

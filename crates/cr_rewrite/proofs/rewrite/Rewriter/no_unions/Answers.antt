@@ -1,7 +1,0 @@
-use Rattle.cr_rewrite.proofs.Done.{join_made}
-use Rattle.cr_rewrite.specs.Terms.{no_unions}
-use Rattle.cr_rewrite.proofs.rewrite.Rewriter.no_unions.Goals as goal
-
-pub returns : goal.returns
-unfolding no_unions
-returns g c = join_made c.in_ok-leaf.ensures c.in_ok-leaf-2.ensures

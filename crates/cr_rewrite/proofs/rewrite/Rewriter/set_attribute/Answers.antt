@@ -1,8 +1,0 @@
-use Rattle.cr_rewrite.proofs.Done.{wrap_made, join_made, using_made, begins_as}
-use Rattle.cr_rewrite.specs.Assigning.{set_attribute}
-use Rattle.cr_rewrite.specs.Terms.{called}
-use Rattle.cr_rewrite.proofs.rewrite.Rewriter.set_attribute.Goals as goal
-
-pub returns : goal.returns
-unfolding set_attribute called
-returns g c = using_made _ c.in_ok-setter.ensures (wrap_made (begins_as c.sent_form.ensures c.in_ok-open.ensures) (join_made c.in_ok-term.ensures c.in_ok-term-2.ensures) c.in_ok-close.ensures)

@@ -1,5 +1,0 @@
-use Rattle.cr_rewrite.proofs.Done.{wrap_made}
-use Rattle.cr_rewrite.proofs.rewrite.Rewriter.test.Goals as goal
-
-pub returns-then-until : goal.returns-then-until
-returns-then-until g c = rw c.if-until.true (wrap_made c.in_ok-open.ensures c.in_ok-term.ensures c.in_ok-close.ensures)

@@ -1,7 +1,0 @@
-use Rattle.cr_rewrite.proofs.Done.{join_made}
-use Rattle.cr_rewrite.specs.Terms.{two}
-use Rattle.cr_rewrite.proofs.rewrite.Rewriter.two.Goals as goal
-
-pub returns : goal.returns
-unfolding two
-returns g c = join_made c.in_ok-term.ensures c.in_ok-term-2.ensures

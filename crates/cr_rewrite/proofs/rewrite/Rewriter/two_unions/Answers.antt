@@ -1,7 +1,0 @@
-use Rattle.cr_rewrite.proofs.Done.{join_made}
-use Rattle.cr_rewrite.specs.Terms.{two_unions}
-use Rattle.cr_rewrite.proofs.rewrite.Rewriter.two_unions.Goals as goal
-
-pub returns : goal.returns
-unfolding two_unions
-returns g c = join_made c.in_ok-boxed.ensures c.in_ok-boxed-2.ensures

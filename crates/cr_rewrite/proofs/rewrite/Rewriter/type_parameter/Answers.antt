@@ -1,7 +1,0 @@
-use Rattle.cr_rewrite.proofs.Done.{using_made}
-use Rattle.cr_rewrite.specs.Declaring.{type_parameter}
-use Rattle.cr_rewrite.proofs.rewrite.Rewriter.type_parameter.Goals as goal
-
-pub returns : goal.returns
-unfolding type_parameter
-returns g c = using_made _ c.in_ok-name.ensures c.in_ok-leaf.ensures

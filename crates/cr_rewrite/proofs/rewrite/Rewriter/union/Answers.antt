@@ -1,5 +1,0 @@
-use Rattle.cr_rewrite.proofs.Done.{wrap_made}
-use Rattle.cr_rewrite.proofs.rewrite.Rewriter.union.Goals as goal
-
-pub returns : goal.returns
-returns g c = wrap_made c.in_ok-open.ensures c.in_ok-atoms.ensures c.in_ok-close.ensures

@@ -1,0 +1,7 @@
+use Rattle.cr_making.proofs.Done.{wrap_made}
+use Rattle.cr_making.specs.Terms.{yield}
+use Rattle.cr_rewrite.proofs.terms.Terms.yield_.Goals as goal
+
+pub returns : goal.returns
+unfolding yield
+returns g c = wrap_made c.in_ok-open.ensures c.in_ok-each.ensures c.in_ok-close.ensures

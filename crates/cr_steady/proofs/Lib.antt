@@ -1,0 +1,12 @@
+pub mod Steps
+pub mod Lists
+pub mod Claims
+pub mod Types
+pub mod Bodies
+pub mod Compounds
+pub mod Primaries
+pub mod Links
+pub mod Operations
+pub mod Statements
+pub mod Declarations
+pub mod Knot
