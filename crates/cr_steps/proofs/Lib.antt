@@ -1,0 +1,11 @@
+mod Ready
+mod Parts
+mod Lists
+mod Acted
+mod Decided
+mod Assigned
+mod Reduced
+mod Held
+mod Controlled
+mod Done
+mod Whole
