@@ -1,0 +1,5 @@
+pub mod Outwards
+pub mod Scoped
+pub mod Unspawned
+pub mod Decided
+pub mod Earliest
