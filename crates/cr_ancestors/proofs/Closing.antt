@@ -44,7 +44,7 @@ numbers_in (x ∷ xs) n h = elim (or_from (eqb n x.0) (list_any (eqb n) (map (λ
 ]
 
 module _ (hierarchy : List (List ClassId)) (class : ClassId) (within : IsWithin hierarchy) where
-  up_low : (below above : ClassId) → Contains (ups_of hierarchy below) above → above.0 < length hierarchy
+  pub up_low : (below above : ClassId) → Contains (ups_of hierarchy below) above → above.0 < length hierarchy
   up_low below above there = by (slice_get hierarchy below.0) refl there
     where
       by : (o : Option (List ClassId)) → slice_get hierarchy below.0 ≡ o → Contains (unwrap_or o []) above → above.0 < length hierarchy

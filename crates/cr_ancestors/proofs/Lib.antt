@@ -5,3 +5,4 @@ pub mod Stuck
 pub mod Closing
 pub mod Lookup
 pub mod Ends
+pub mod Reckoned

@@ -2,8 +2,9 @@
 ghost use Rattle.std.specs.Prelude.{◌≡◌, ◌<◌, Bool, true, List, [], ◌∷◌, ◌++◌, length, map, slice_get, Some};
 ghost use Rattle.cr_base.specs.declared.ids.ClassId.{ClassId};
 ghost use Rattle.cr_ancestors.specs.declared.parents.Parents.{Parents};
-ghost use Rattle.cr_ancestors.specs.Above.{ups};
-ghost use Rattle.cr_ancestors.specs.Line.{IsOnce, AreAncestors};
+ghost use Rattle.cr_ancestors.specs.Above.{ups, IsWithin};
+ghost use Rattle.cr_ancestors.specs.Line.{IsOnce, AreAncestors, AreAll};
+ghost use Rattle.cr_ancestors.specs.Reckoned.{ancestors_in};
 ghost use Rattle.cr_ancestors.specs.Rooted.{IsRooted};
 ghost use Rattle.cr_ancestors.specs.Examples.{at_root, including, below, number, numbers};
 
@@ -23,6 +24,12 @@ pub fn root_law()
         IsRooted parents is_class root → class.0 < length parents → is_class class ≡ true →
         AreAncestors (map ups parents) class ancestors →
         (front : List ClassId) × (ancestors ≡ front ++ root ∷ []) }
+{}
+
+/// The ancestors of each class and module, where none stands above itself, are those that a function of the hierarchy gives.
+pub fn reckoned_law()
+    ensures { (hierarchy table : List (List ClassId)) (class : ClassId) (ancestors : List ClassId) →
+        IsWithin hierarchy → AreAll hierarchy table → slice_get table class.0 ≡ Some ancestors → ancestors ≡ ancestors_in hierarchy class }
 {}
 
 /// Examples of lookup orders, where 0 is the class at the root.

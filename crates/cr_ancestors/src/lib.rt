@@ -10,7 +10,7 @@ mod parents;
 pub use ancestors::{Ancestors, AncestorsFault};
 pub use class_list::ClassList;
 pub use hierarchy::{Hierarchy, HierarchyFault};
-pub use laws::{ancestors_law, examples, root_law};
+pub use laws::{ancestors_law, examples, reckoned_law, root_law};
 pub use parents::Parents;
 
 #[cfg(test)]
