@@ -1,0 +1,4 @@
+pub mod Listed
+pub mod Chosen
+pub mod Kept
+pub mod Answered
