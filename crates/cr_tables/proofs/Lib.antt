@@ -2,3 +2,4 @@ pub mod Listed
 pub mod Chosen
 pub mod Kept
 pub mod Answered
+pub mod Tabled

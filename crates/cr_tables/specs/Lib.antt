@@ -7,5 +7,8 @@ pub mod Methods
 pub mod Choosing
 pub mod World
 pub mod Tables
+pub mod Classes
 -- Examples.
 pub mod Examples
+-- What only carries a proof inside.
+pub mod Making
