@@ -1,5 +1,6 @@
 // Texts, each with the code and place of its first offence that names alone decide, or the shapes of rows, or with none.
-use cr_base::NodeId;
+use cr_ancestors::AncestorsFault;
+use cr_base::{NoMemory, NodeId};
 use cr_core::CoreTree;
 use cr_decl::program;
 use cr_descent::tokens_end_once;
@@ -9,6 +10,7 @@ use cr_lowering::core_of;
 use cr_names::{What, first_offence};
 use cr_shapes::What as Shape;
 use cr_syntax::MAX_SOURCE_BYTES;
+use cr_tables::Classes;
 use sqlite_items::Boxed;
 use std::alloc::Global;
 use std::process::Abort;
@@ -70,6 +72,15 @@ fn of_shapes(alloc: Global, core: &CoreTree) -> Result<String, Fail> {
 fn core_tree(rt: &impl Abort, alloc: Global, prelude: &Tree, text: &str) -> Result<CoreTree, Fail> {
     let tree = tree_of(rt, alloc, text)?;
     Ok(core_of(alloc, prelude, tree.get())?)
+}
+
+// Whether tables have classes for it: not so where one stands above itself.
+fn has_classes(alloc: Global, core: &CoreTree) -> Result<bool, Fail> {
+    match Classes::of(alloc, core) {
+        Ok(_) => Ok(true),
+        Err(AncestorsFault::Cyclic) => Ok(false),
+        Err(AncestorsFault::NoMemory) => Err(NoMemory.into()),
+    }
 }
 
 fn as_wanted(rt: &impl Abort, alloc: Global, rows: &[(&str, &str)]) -> Result<(), Fail> {
@@ -220,4 +231,20 @@ fn shapes_of_rows_are_refused(rt: HostRuntime) -> Result<(), Fail> {
         ("def f; spawn do; yield; end; end; x = []", "8 17"),
     ];
     shaped_as_wanted(&rt, rt.alloc(), &rows)
+}
+
+#[test]
+fn classes_of_tables_are_made_unless_one_is_above_itself(rt: HostRuntime) -> Result<(), Fail> {
+    let rows = [
+        ("", true),
+        ("class A; end; class B < A; end; module M; end", true),
+        ("class A < B; end; class B < A; end", false),
+        ("module M; include N; end; module N; include M; end", false),
+    ];
+    let prelude = Boxed::new(rt.alloc(), cr_prelude::tree(rt.alloc())?)?;
+    for (text, want) in &rows {
+        let core = core_tree(&rt, rt.alloc(), prelude.get(), text)?;
+        assert_eq!(rt; has_classes(rt.alloc(), &core)?, *want, "at {text}");
+    }
+    Ok(())
 }
